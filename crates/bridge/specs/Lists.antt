@@ -1,0 +1,75 @@
+-- Lists made or changed by index, and the first that passes. Nothing of scheduling.
+use mathlib.Core.Path.{_≡_, refl, ap, ap₂, sym, _∙_}
+use mathlib.Core.Bool.{Bool, true, false}
+use mathlib.Core.Logic.{_⊎_, inl, inr}
+use mathlib.Core.List.{List, [], _∷_, _++_}
+use Prim.Native.Nat.{ℕ, zero, suc, _+_, _-_, _≤_, _<_}
+use native.Mathlib.Nat.{not-suc-le-zero, add-zero, add-suc, suc-add, zero-add}
+use native.Mathlib.Omega.{arith}
+use lib.ListN.{length, getD, set}
+use Rattle.rules.specs.Words.{pick, mapFrom, mapAt, tab, firstIn, orElse}
+
+pub mapFrom-long : {A : Type 0} (f : ℕ → A → A) (k : ℕ) (xs : List A) → length (mapFrom f k xs) ≡ length xs
+unfolding mapFrom
+mapFrom-long f k [] = refl
+mapFrom-long f k (x ∷ xs) = ap suc (mapFrom-long f (suc k) xs)
+
+mapFrom-at : {A : Type 0} (f : ℕ → A → A) (k : ℕ) (xs : List A) (i : ℕ) (d : A) → i < length xs → getD (mapFrom f k xs) i d ≡ f (k + i) (getD xs i d)
+unfolding mapFrom
+mapFrom-at f k [] i d h = absurd (not-suc-le-zero h)
+mapFrom-at f k (x ∷ xs) zero d h = rw (add-zero k)
+mapFrom-at f k (x ∷ xs) (suc i) d h = rw (mapFrom-at f (suc k) xs i d (omega arith), add-suc, suc-add)
+
+pub mapAt-at : {A : Type 0} (f : ℕ → A → A) (xs : List A) (i : ℕ) (d : A) → i < length xs → getD (mapAt f xs) i d ≡ f i (getD xs i d)
+mapAt-at f xs i d h = mapFrom-at f 0 xs i d h ∙ rw (zero-add i)
+
+-- two maps that agree at each index are one
+pub mapFrom-cong : {A : Type 0} (f g : ℕ → A → A) (k : ℕ) (xs : List A) → ((i : ℕ) (x : A) → k ≤ i → i < k + length xs → f i x ≡ g i x) → mapFrom f k xs ≡ mapFrom g k xs
+unfolding mapFrom
+mapFrom-cong f g k [] h = refl
+mapFrom-cong f g k (x ∷ xs) h = ap₂ _∷_ (h k x (omega arith) (omega arith)) (mapFrom-cong f g (suc k) xs (λ i y p q. h i y (omega arith) (omega arith)))
+
+pub tab-long : {A : Type 0} (f : ℕ → A) (k n : ℕ) → length (tab f k n) ≡ n
+unfolding tab
+tab-long f k zero = refl
+tab-long f k (suc n) = ap suc (tab-long f (suc k) n)
+
+tab-from : {A : Type 0} (f : ℕ → A) (k n i : ℕ) (d : A) → i < n → getD (tab f k n) i d ≡ f (k + i)
+unfolding tab
+tab-from f k zero i d h = absurd (not-suc-le-zero h)
+tab-from f k (suc n) zero d h = rw (add-zero k)
+tab-from f k (suc n) (suc i) d h = rw (tab-from f (suc k) n i d (omega arith), add-suc, suc-add)
+
+pub tab-at : {A : Type 0} (f : ℕ → A) (n i : ℕ) (d : A) → i < n → getD (tab f 0 n) i d ≡ f i
+tab-at f n i d h = tab-from f 0 n i d h ∙ rw (zero-add i)
+
+pub tab-cong : {A : Type 0} (f g : ℕ → A) (k n : ℕ) → ((i : ℕ) → k ≤ i → i < k + n → f i ≡ g i) → tab f k n ≡ tab g k n
+unfolding tab
+tab-cong f g k zero h = refl
+tab-cong f g k (suc n) h = ap₂ _∷_ (h k (omega arith) (omega arith)) (tab-cong f g (suc k) n (λ i p q. h i (omega arith) (omega arith)))
+
+pub tab-snoc : {A : Type 0} (f : ℕ → A) (k n : ℕ) → tab f k (suc n) ≡ tab f k n ++ (f (k + n) ∷ [])
+unfolding tab
+tab-snoc f k zero = rw (add-zero k)
+tab-snoc f k (suc n) = ap (λ l. f k ∷ l) (tab-snoc f (suc k) n ∙ rw (add-suc, suc-add))
+
+-- a store at one index, where the lists agree elsewhere
+tab-set-from : {A : Type 0} (f g : ℕ → A) (k n j : ℕ) → j < n → ((i : ℕ) → k ≤ i → i < k + n → (i ≡ k + j → ⊥) → f i ≡ g i) → set (tab f k n) j (g (k + j)) ≡ tab g k n
+unfolding tab
+tab-set-from f g k zero j l h = absurd (not-suc-le-zero l)
+tab-set-from f g k (suc n) zero l h = rw (add-zero k) (ap (λ l. g k ∷ l) (tab-cong f g (suc k) n (λ i p q. h i (omega arith) (omega arith) (λ e. omega arith))))
+tab-set-from f g k (suc n) (suc j) l h =
+    ap₂ _∷_ (h k (omega arith) (omega arith) (λ e. omega arith))
+    (rw (add-suc, ← suc-add) (tab-set-from f g (suc k) n j (omega arith) (λ i p q e. h i (omega arith) (omega arith) (λ z. e (omega arith)))))
+
+pub tab-set : {A : Type 0} (f g : ℕ → A) (n j : ℕ) → j < n → ((i : ℕ) → i < n → (i ≡ j → ⊥) → f i ≡ g i) → set (tab f 0 n) j (g j) ≡ tab g 0 n
+tab-set f g n j l h = rw (zero-add) at (tab-set-from f g 0 n j l (λ i p q e. h i (omega arith) (λ z. e (omega arith))))
+
+-- ---- choices
+pub picked {ℓ} : {A : Type 0} (P : A → Type ℓ) (b : Bool) (x y : A) → (b ≡ true → P x) → (b ≡ false → P y) → P (pick b x y)
+picked P true x y f g = f refl
+picked P false x y f g = g refl
+
+pub cases : (b : Bool) → (b ≡ true) ⊎ (b ≡ false)
+cases true = inl refl
+cases false = inr refl

@@ -1,0 +1,170 @@
+-- The records as numbers in the lent room: a store of one record, and the stores of one slot.
+use mathlib.Core.Path.{_≡_, refl, ap, ap₂, sym, _∙_}
+use mathlib.Core.Bool.{Bool, true, false, _&&_, false≢true, true≢false}
+use mathlib.Core.Logic.{_⊎_, inl, inr}
+use mathlib.Core.List.{List, [], _∷_, _++_}
+use Prim.Native.Nat.{ℕ, zero, suc, _+_, _-_, _*_, _≤_, _<_}
+use native.Mathlib.Nat.{eq-or-lt-of-le, not-suc-le-zero, zero-add}
+use native.Mathlib.Decide.{decLt, decLe}
+use native.Mathlib.Omega.{arith}
+use lib.Dec.{eqb, ltb, leb}
+use lib.ListN.{length, getD, set, drop}
+use borrow.Author.Tests.{lt-ltb, le-ltb, eqb-true, eqb-false}
+use Rattle.rules.specs.Words.{pick, bit, sum, countIn, tab}
+use Rattle.rules.specs.Case.{Case, releaseCount, timeOf, nameOf}
+use Rattle.rules.specs.Slot.{TaskSet, jobAt, isPresent, leftOf, dueOf, isDemotedNow, isCf}
+use Rattle.rules.specs.Replay.{setupIn, releasedAt, stateAt, ranAt, finishedAt, demotedAt, Record, recordOf, recordBy, numbers, marked}
+use Rattle.rules.specs.declared.Job.{Job}
+use Rattle.rules.specs.declared.Run.{Run}
+use Rattle.bridge.specs.Lists.{cases, tab-long, tab-at, tab-cong, tab-set}
+use Rattle.bridge.specs.Stands.{readyAt, openAt, finished-at, demoted-at}
+use Rattle.bridge.specs.Legal.{Legal}
+use Rattle.bridge.specs.Records.{noted}
+use Rattle.bridge.specs.Turn.{lastPlace, Reached, Live, turn-idle, turn-live}
+
+-- ---- three numbers a record
+unfoldable pub put3 : List ℕ → ℕ → Record → List ℕ
+put3 xs p r = set (set (set xs (p * 3) (r .verdict)) (p * 3 + 1) (r .finish)) (p * 3 + 2) (r .demotion)
+
+abbrev noRecord : Record
+noRecord = recordOf 0 0 0
+
+pub numbers-long : (rs : List Record) → length (numbers rs) ≡ length rs * 3
+unfolding numbers
+numbers-long [] = refl
+numbers-long (r ∷ rs) = omega (arith, numbers-long rs)
+
+put3-at : (rs : List Record) (p : ℕ) (r : Record) (rest : List ℕ) → p < length rs → put3 (numbers rs ++ rest) p r ≡ numbers (set rs p r) ++ rest
+unfolding put3 numbers
+put3-at [] p r rest h = absurd (not-suc-le-zero h)
+put3-at (x ∷ rs) zero r rest h = refl
+put3-at (x ∷ rs) (suc p) r rest h =
+    let e2 : suc p * 3 + 2 ≡ suc (suc (suc (p * 3 + 2))) = omega arith in
+    let e1 : suc p * 3 + 1 ≡ suc (suc (suc (p * 3 + 1))) = omega arith in
+    let e : suc p * 3 ≡ suc (suc (suc (p * 3))) = omega arith in
+    rw (e2, e1, e) (ap (λ (l : List ℕ). x .verdict ∷ x .finish ∷ x .demotion ∷ l) (put3-at rs p r rest (omega arith)))
+
+demotion-at : (rs : List Record) (p : ℕ) (rest : List ℕ) → p < length rs → getD (numbers rs ++ rest) (p * 3 + 2) 0 ≡ getD rs p noRecord .demotion
+unfolding numbers
+demotion-at [] p rest h = absurd (not-suc-le-zero h)
+demotion-at (x ∷ rs) zero rest h = refl
+demotion-at (x ∷ rs) (suc p) rest h =
+    let e : suc p * 3 + 2 ≡ suc (suc (suc (p * 3 + 2))) = omega arith in
+    rw e (demotion-at rs p rest (omega arith))
+
+verdict-at : (rs : List Record) (p : ℕ) (rest : List ℕ) → p < length rs → getD (numbers rs ++ rest) (p * 3) 0 ≡ getD rs p noRecord .verdict
+unfolding numbers
+verdict-at [] p rest h = absurd (not-suc-le-zero h)
+verdict-at (x ∷ rs) zero rest h = refl
+verdict-at (x ∷ rs) (suc p) rest h =
+    let e : suc p * 3 ≡ suc (suc (suc (p * 3))) = omega arith in
+    rw e (verdict-at rs p rest (omega arith))
+
+-- ---- what one slot stores, task by task
+unfoldable pub noteOne : Bool → ℕ → List ℕ → Run → Run → List Bool → ℕ → List ℕ → List ℕ
+noteOne cf t place ready opn ran i xs =
+    pick (isPresent (jobAt opn i))
+    (put3 xs (getD place i 0)
+    (noted t (getD ran i false && leb (leftOf (jobAt opn i)) 1) (cf && isDemotedNow (jobAt ready i)) (dueOf (jobAt opn i)) (getD xs (getD place i 0 * 3 + 2) 0))) xs
+
+unfoldable pub noteTo : Bool → ℕ → List ℕ → Run → Run → List Bool → ℕ → List ℕ → List ℕ
+noteTo cf t place ready opn ran zero xs = xs
+noteTo cf t place ready opn ran (suc i) xs = noteOne cf t place ready opn ran i (noteTo cf t place ready opn ran i xs)
+
+stored : (xs : List ℕ) (q p t : ℕ) (fin fin′ dm dm′ : Bool) (due d d′ : ℕ) → q ≡ p → fin ≡ fin′ → dm ≡ dm′ → d ≡ d′
+    → put3 xs q (noted t fin dm due d) ≡ put3 xs p (noted t fin′ dm′ due d′)
+stored xs q p t fin fin′ dm dm′ due d d′ a b e f = rw (a, b, e, f)
+
+-- what is handed to the stores is what the slot of the case has
+pub record Handed (c : Case) (t k : ℕ) (place : List ℕ) (ready opn : Run) (ran : List Bool) : Type 0 where
+  pub at-place : (i : ℕ) → i < 32 → getD place i 0 ≡ lastPlace (c .trace) k (suc i)
+  pub at-ready : (i : ℕ) → i < 32 → jobAt ready i ≡ readyAt c t i
+  pub at-open : (i : ℕ) → i < 32 → jobAt opn i ≡ openAt c t i
+  pub at-ran : (i : ℕ) → i < 32 → getD ran i false ≡ ranAt c t i
+
+module _ (c : Case) (g : Legal c) (t k : ℕ) (w : Reached (c .trace) k (suc t)) (place : List ℕ) (ready opn : Run) (ran : List Bool)
+    (o : Handed c t k place ready opn ran) (rest : List ℕ) where
+  abbrev n : ℕ
+  n = releaseCount (c .trace)
+
+  -- the records when the tasks below i have been noted
+  abbrev mixed : ℕ → ℕ → Record
+  mixed i j = pick (ltb (nameOf (c .trace) j) (suc i)) (recordBy c (suc t) j) (recordBy c t j)
+
+  mixed-new : (i j : ℕ) → nameOf (c .trace) j ≤ i → mixed i j ≡ recordBy c (suc t) j
+  mixed-new i j h = rw (lt-ltb (nameOf (c .trace) j) (suc i) (omega arith))
+
+  mixed-old : (i j : ℕ) → i < nameOf (c .trace) j → mixed i j ≡ recordBy c t j
+  mixed-old i j h = rw (le-ltb (nameOf (c .trace) j) (suc i) (omega arith))
+
+  -- from i to i + 1 only releases of task i may change
+  mixed-more : (i j : ℕ) → (nameOf (c .trace) j ≡ suc i → recordBy c (suc t) j ≡ recordBy c t j) → mixed i j ≡ mixed (suc i) j
+  mixed-more i j h = go (decLe (nameOf (c .trace) j) i) (decLe (nameOf (c .trace) j) (suc i))
+    where
+      go : Dec (nameOf (c .trace) j ≤ i) → Dec (nameOf (c .trace) j ≤ suc i) → mixed i j ≡ mixed (suc i) j
+      go (yes a) b = mixed-new i j a ∙ sym (mixed-new (suc i) j (omega arith))
+      go (no a) (yes b) = mixed-old i j (omega arith) ∙ sym (h (omega arith)) ∙ sym (mixed-new (suc i) j b)
+      go (no a) (no b) = mixed-old i j (omega arith) ∙ sym (mixed-old (suc i) j (omega arith))
+
+  one : (i : ℕ) → i < 32 → noteOne (isCf (setupIn c)) t place ready opn ran i (numbers (tab (mixed i) 0 n) ++ rest) ≡ numbers (tab (mixed (suc i)) 0 n) ++ rest
+  unfolding noteOne
+  one i h = rw (o .at-open i h) (go (isPresent (openAt c t i)) refl)
+    where
+      go : (b : Bool) → isPresent (openAt c t i) ≡ b
+          → pick b
+          (put3 (numbers (tab (mixed i) 0 n) ++ rest) (getD place i 0)
+          (noted t (getD ran i false && leb (leftOf (openAt c t i)) 1) (isCf (setupIn c) && isDemotedNow (jobAt ready i)) (dueOf (openAt c t i))
+          (getD (numbers (tab (mixed i) 0 n) ++ rest) (getD place i 0 * 3 + 2) 0))) (numbers (tab (mixed i) 0 n) ++ rest)
+          ≡ numbers (tab (mixed (suc i)) 0 n) ++ rest
+      go false e = ap (λ (l : List Record). numbers l ++ rest) (tab-cong (mixed i) (mixed (suc i)) 0 n (λ j x y. mixed-more i j (turn-idle c g t k w i h e j (omega arith))))
+      go true e =
+          let v = turn-live c g t k w i h e in
+          let p = lastPlace (c .trace) k (suc i) in
+          let long : p < length (tab (mixed i) 0 n) = rw (tab-long (mixed i) 0 n) (v .within) in
+          let old : getD (tab (mixed i) 0 n) p noRecord ≡ recordBy c t p = tab-at (mixed i) n p noRecord (v .within) ∙ mixed-old i p (omega (arith, v .its)) in
+          let new : noted t (finishedAt c t i) (demotedAt c t i) (dueOf (openAt c t i)) (recordBy c t p .demotion) ≡ mixed (suc i) p =
+          sym (v .new) ∙ sym (mixed-new (suc i) p (omega (arith, v .its)))
+          in
+          let xs = numbers (tab (mixed i) 0 n) ++ rest in
+          stored xs (getD place i 0) p t _ (finishedAt c t i) _ (demotedAt c t i) (dueOf (openAt c t i)) _ (recordBy c t p .demotion)
+          (o .at-place i h)
+          (ap (λ (b : Bool). b && leb (leftOf (openAt c t i)) 1) (o .at-ran i h) ∙ sym (finished-at c i h t))
+          (ap (λ (j : Job). isCf (setupIn c) && isDemotedNow j) (o .at-ready i h) ∙ sym (demoted-at c i h t))
+          (ap (λ (q : ℕ). getD xs (q * 3 + 2) 0) (o .at-place i h) ∙ demotion-at (tab (mixed i) 0 n) p rest long ∙ ap (λ (r : Record). r .demotion) old) ∙
+          ap (put3 xs p) new ∙ put3-at (tab (mixed i) 0 n) p (mixed (suc i) p) rest long ∙
+          ap (λ (l : List Record). numbers l ++ rest) (tab-set (mixed i) (mixed (suc i)) n p (v .within)
+          (λ j x y. mixed-more i j (λ q. v .others j x q y)))
+
+  all-to : (i : ℕ) → i ≤ 32 → noteTo (isCf (setupIn c)) t place ready opn ran i (numbers (tab (mixed 0) 0 n) ++ rest) ≡ numbers (tab (mixed i) 0 n) ++ rest
+  unfolding noteTo
+  all-to zero h = refl
+  all-to (suc i) h = ap (noteOne (isCf (setupIn c)) t place ready opn ran i) (all-to i (omega arith)) ∙ one i (omega arith)
+
+  -- the stores of the slot at t bring the records as they stand at t to those as they stand at t + 1
+  pub noted-all : noteTo (isCf (setupIn c)) t place ready opn ran 32 (numbers (tab (recordBy c t) 0 n) ++ rest) ≡ numbers (tab (recordBy c (suc t)) 0 n) ++ rest
+  noted-all =
+      ap (λ (l : List Record). noteTo (isCf (setupIn c)) t place ready opn ran 32 (numbers l ++ rest))
+      (tab-cong (recordBy c t) (mixed 0) 0 n (λ j x y. sym (mixed-old 0 j (omega (arith, g .named j (omega arith)))))) ∙
+      all-to 32 (omega arith) ∙
+      ap (λ (l : List Record). numbers l ++ rest)
+      (tab-cong (mixed 32) (recordBy c (suc t)) 0 n (λ j x y. mixed-new 32 j (omega (arith, g .named j (omega arith), g .tasks-few))))
+
+-- ---- totals read off the room
+sum-cong : (f g : ℕ → ℕ) (a l : ℕ) → ((t : ℕ) → f t ≡ g t) → sum f a l ≡ sum g a l
+unfolding sum
+sum-cong f g a zero h = refl
+sum-cong f g a (suc l) h = ap₂ _+_ (sum-cong f g a l h) (h (a + l))
+
+sum-head : (f : ℕ → ℕ) (l : ℕ) → sum f 0 (suc l) ≡ f 0 + sum (λ t. f (suc t)) 0 l
+unfolding sum
+sum-head f zero = omega arith
+sum-head f (suc l) = rw (zero-add (suc l), zero-add l) (omega (arith, zero-add l, sum-head f l, ap f (zero-add l)))
+
+pub marked-in : (v : ℕ) (rs : List Record) (rest : List ℕ) → countIn (λ j. eqb (getD (numbers rs ++ rest) (j * 3) 0) v) 0 (length rs) ≡ marked v rs
+unfolding numbers marked sum
+marked-in v [] rest = refl
+marked-in v (x ∷ rs) rest =
+    sum-head (λ j. bit (eqb (getD (numbers (x ∷ rs) ++ rest) (j * 3) 0) v)) (length rs) ∙
+    ap (λ (z : ℕ). bit (eqb (x .verdict) v) + z)
+    (sum-cong (λ j. bit (eqb (getD (numbers (x ∷ rs) ++ rest) (suc j * 3) 0) v)) (λ j. bit (eqb (getD (numbers rs ++ rest) (j * 3) 0) v)) 0 (length rs)
+    (λ j. let e : suc j * 3 ≡ suc (suc (suc (j * 3))) = omega arith in rw e) ∙ marked-in v rs rest)

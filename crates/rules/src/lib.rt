@@ -1,0 +1,95 @@
+// The declared types of document 01. There is no function here: what they mean is said in specs/.
+
+// The state of a task: no job, a normal one or a demoted one.
+// `left` is the remaining execution, `free` the remaining free count, `due` the absolute deadline.
+pub enum Job {
+    Idle,
+    Normal { left: u32, free: u32, due: u32 },
+    Demoted { left: u32, due: u32 },
+}
+
+// A task in a run: its number, one more than the time of its last release (0 before the first), its state.
+pub struct Task {
+    pub number: u32,
+    pub last: u32,
+    pub job: Job,
+}
+
+// A run: one record for each of 32 tasks.
+pub struct Run {
+    pub tasks: [Task; 32],
+}
+
+// What a check finds: a refusal's number and place; number 0 where nothing is at fault.
+pub struct Fault {
+    pub number: u32,
+    pub place: u32,
+}
+
+// What the counts call answers.
+pub enum Counted {
+    Refused { number: u32, place: u32 },
+    Counts { tasks: usize },
+}
+
+// What the replay answers.
+pub enum Replayed {
+    Refused { number: u32, place: u32 },
+    Judged { met: u32, missed: u32, open: u32 },
+}
+
+// What the running set call answers.
+pub enum Running {
+    Refused { number: u32, place: u32 },
+    Ran { set: u32 },
+}
+
+// What the reader answers.
+pub enum Taken {
+    Refused {
+        number: u32,
+        place: u32,
+    },
+    Read {
+        procs: u32,
+        policy: u32,
+        end: u32,
+        tasks: usize,
+        releases: usize,
+    },
+}
+
+// What the writer answers.
+pub enum Written {
+    Refused { number: u32, place: u32 },
+    Text { length: usize },
+}
+
+// What the bytes of a field say where a number is wanted.
+pub enum Num {
+    Value { value: u32 },
+    Bad,
+}
+
+// What a line of a case text says.
+pub enum Line {
+    Bad,
+    Procs {
+        procs: u32,
+    },
+    Policy {
+        policy: u32,
+    },
+    Row {
+        period: u32,
+        execution: u32,
+        deadline: u32,
+    },
+    End {
+        end: u32,
+    },
+    Release {
+        time: u32,
+        task: u32,
+    },
+}
