@@ -6,10 +6,10 @@ use Prim.Native.Nat.{ℕ, suc, _+_, _-_, _≤_, _<_}
 use native.Mathlib.Numerals.{add-one}
 use native.Mathlib.Nat.{zero-add}
 use native.Mathlib.Omega.{arith}
-use lib.ListN.{length, take, drop, getD, set, drop-of-length-le}
+use lib.ListN.{length, take, drop, getD, set, length-append, length-drop, drop-of-length-le}
 use lib.Seq.{drop-cons, take-suc, take-all, length-take-le, set-at, getD-at, append-snoc, set-getD}
-use Rattle.rules.specs.Words.{sum, countIn, mapAt}
-use Rattle.bridge.specs.Lists.{mapFrom-long, mapAt-at}
+use Rattle.rules.specs.Words.{sum, countIn, mapAt, tab}
+use Rattle.bridge.specs.Lists.{mapFrom-long, mapAt-at, tab-long, tab-snoc}
 
 -- the first `i` of `ys`, and after them what `xs` has from `i` on
 abbrev pub blend {ℓ} : {A : Type ℓ} → ℕ → List A → List A → List A
@@ -104,3 +104,25 @@ counting-no p s i h w e = record { within = omega arith; few = omega (arith, w .
 
 pub counting-all : (p : ℕ → Bool) (s i : ℕ) → 32 ≤ i → Counting p s i → s ≡ countIn p 0 32
 counting-all p s i h w = w .so-far ∙ ap (countIn p 0) (omega (arith, w .within))
+
+-- ---- a loop that writes f 0, f 1, .. in order over what a slice held: it began at `xs` and stands at index `i` with `s`
+pub record Laying {A : Type 0} (f : ℕ → A) (xs s : List A) (i : ℕ) : Type 0 where
+  pub within : i ≤ length xs
+  pub so-far : s ≡ tab f 0 i ++ drop i xs
+
+pub laying-none : {A : Type 0} (f : ℕ → A) (xs : List A) → Laying f xs xs 0
+unfolding tab
+laying-none f xs = record { within = omega arith; so-far = refl }
+
+module _ {A : Type 0} (f : ℕ → A) (xs s : List A) (i : ℕ) where
+  pub laying-long : Laying f xs s i → length s ≡ length xs
+  laying-long w = omega (arith, ap length (w .so-far), length-append (tab f 0 i) (drop i xs), tab-long f 0 i, length-drop i xs, w .within)
+
+  pub laying-store : (d r : A) → i < length xs → Laying f xs s i → r ≡ f i → Laying f xs (set s i r) (i + 1)
+  laying-store d r h w e =
+      record {
+        within = omega arith;
+        so-far =
+            rw (w .so-far, e, drop-cons xs i d h)
+            (set-at (tab f 0 i) (getD xs i d) (drop (suc i) xs) (f i) i (tab-long f 0 i) ∙ rw (add-one, tab-snoc f 0 i, zero-add, append-snoc));
+      }

@@ -6,7 +6,7 @@ use mathlib.Core.List.{List, [], _∷_, _++_}
 use Prim.Native.Nat.{ℕ, zero, suc, _+_, _-_, _≤_, _<_}
 use native.Mathlib.Nat.{not-suc-le-zero, add-zero, add-suc, suc-add, zero-add}
 use native.Mathlib.Omega.{arith}
-use lib.ListN.{length, getD, set}
+use lib.ListN.{length, getD, set, List·getD-append}
 use Rattle.rules.specs.Words.{pick, mapFrom, mapAt, tab}
 
 pub mapFrom-long : {A : Type 0} (f : ℕ → A → A) (k : ℕ) (xs : List A) → length (mapFrom f k xs) ≡ length xs
@@ -42,6 +42,10 @@ tab-from f k (suc n) (suc i) d h = rw (tab-from f (suc k) n i d (omega arith), a
 
 pub tab-at : {A : Type 0} (f : ℕ → A) (n i : ℕ) (d : A) → i < n → getD (tab f 0 n) i d ≡ f i
 tab-at f n i d h = tab-from f 0 n i d h ∙ rw (zero-add i)
+
+-- and so in front of other elements
+pub tab-front : {A : Type 0} (f : ℕ → A) (n : ℕ) (ys : List A) (i : ℕ) (d : A) → i < n → getD (tab f 0 n ++ ys) i d ≡ f i
+tab-front f n ys i d h = List·getD-append (tab f 0 n) ys d i (omega (arith, tab-long f 0 n)) ∙ tab-at f n i d h
 
 pub tab-cong : {A : Type 0} (f g : ℕ → A) (k n : ℕ) → ((i : ℕ) → k ≤ i → i < k + n → f i ≡ g i) → tab f k n ≡ tab g k n
 unfolding tab

@@ -1,25 +1,23 @@
 -- The records as numbers in the lent room: a store of one record, and the stores of one slot.
 use mathlib.Core.Path.{_≡_, refl, ap, ap₂, sym, _∙_}
-use mathlib.Core.Bool.{Bool, true, false, _&&_}
+use mathlib.Core.Bool.{Bool, true, false}
 use mathlib.Core.List.{List, [], _∷_, _++_}
 use Prim.Native.Nat.{ℕ, zero, suc, _+_, _-_, _*_, _≤_, _<_}
 use native.Mathlib.Nat.{not-suc-le-zero, zero-add}
 use native.Mathlib.Decide.{decLe}
 use native.Mathlib.Omega.{arith}
-use lib.Dec.{eqb, ltb, leb}
+use lib.Dec.{eqb, ltb}
 use lib.ListN.{length, getD, set}
 use borrow.Author.Tests.{lt-ltb, le-ltb}
 use Rattle.rules.specs.Words.{pick, bit, sum, countIn, tab}
 use Rattle.rules.specs.Case.{Case, releaseCount, nameOf}
-use Rattle.rules.specs.Slot.{jobAt, isPresent, leftOf, dueOf, isDemotedNow, isCf}
-use Rattle.rules.specs.Replay.{setupIn, ranAt, finishedAt, demotedAt, Record, recordOf, recordBy, numbers, marked}
-use Rattle.rules.specs.declared.Job.{Job}
+use Rattle.rules.specs.Slot.{jobAt, isMissed, missed}
+use Rattle.rules.specs.Replay.{stateAt, finishedAt, missedAt, demotedAt, Record, recordOf, recordBy, numbers, marked}
 use Rattle.rules.specs.declared.Run.{Run}
 use Rattle.bridge.specs.Lists.{tab-long, tab-at, tab-cong, tab-set}
-use Rattle.bridge.specs.Stands.{readyAt, openAt, finished-at, demoted-at}
 use Rattle.bridge.specs.Legal.{Legal}
-use Rattle.bridge.specs.Records.{noted}
-use Rattle.bridge.specs.Turn.{lastPlace, Reached, turn-idle, turn-live}
+use Rattle.bridge.specs.Events.{event, entry, turn-event, turn-quiet}
+use Rattle.bridge.specs.Turn.{lastPlace, Reached}
 
 -- ---- three numbers a record
 unfoldable pub put3 : List ℕ → ℕ → Record → List ℕ
@@ -59,32 +57,32 @@ verdict-at (x ∷ rs) (suc p) rest h =
     let e : suc p * 3 ≡ suc (suc (suc (p * 3))) = omega arith in
     rw e (verdict-at rs p rest (omega arith))
 
--- ---- what one slot stores, task by task
-unfoldable pub noteOne : Bool → ℕ → List ℕ → Run → Run → List Bool → ℕ → List ℕ → List ℕ
-noteOne cf t place ready opn ran i xs =
-    pick (isPresent (jobAt opn i))
+-- ---- what one slot stores, task by task: the sets that finished and were demoted, and the run after the slot
+unfoldable pub noteOne : ℕ → List ℕ → Run → List Bool → List Bool → ℕ → List ℕ → List ℕ
+noteOne t place next fin dem i xs =
+    pick (event (getD fin i false) (getD dem i false) (isMissed (suc t) (jobAt next i)))
     (put3 xs (getD place i 0)
-    (noted t (getD ran i false && leb (leftOf (jobAt opn i)) 1) (cf && isDemotedNow (jobAt ready i)) (dueOf (jobAt opn i)) (getD xs (getD place i 0 * 3 + 2) 0))) xs
+    (entry t (getD fin i false) (getD dem i false) (isMissed (suc t) (jobAt next i)) (getD xs (getD place i 0 * 3 + 2) 0))) xs
 
-unfoldable pub noteTo : Bool → ℕ → List ℕ → Run → Run → List Bool → ℕ → List ℕ → List ℕ
-noteTo cf t place ready opn ran zero xs = xs
-noteTo cf t place ready opn ran (suc i) xs = noteOne cf t place ready opn ran i (noteTo cf t place ready opn ran i xs)
-
-stored : (xs : List ℕ) (q p t : ℕ) (fin fin′ dm dm′ : Bool) (due d d′ : ℕ) → q ≡ p → fin ≡ fin′ → dm ≡ dm′ → d ≡ d′
-    → put3 xs q (noted t fin dm due d) ≡ put3 xs p (noted t fin′ dm′ due d′)
-stored xs q p t fin fin′ dm dm′ due d d′ a b e f = rw (a, b, e, f)
+unfoldable pub noteTo : ℕ → List ℕ → Run → List Bool → List Bool → ℕ → List ℕ → List ℕ
+noteTo t place next fin dem zero xs = xs
+noteTo t place next fin dem (suc i) xs = noteOne t place next fin dem i (noteTo t place next fin dem i xs)
 
 -- what is handed to the stores is what the slot of the case has
-pub record Handed (c : Case) (t k : ℕ) (place : List ℕ) (ready opn : Run) (ran : List Bool) : Type 0 where
+pub record Handed (c : Case) (t k : ℕ) (place : List ℕ) (next : Run) (fin dem : List Bool) : Type 0 where
   pub at-place : (i : ℕ) → i < 32 → getD place i 0 ≡ lastPlace (c .trace) k (suc i)
-  pub at-ready : (i : ℕ) → i < 32 → jobAt ready i ≡ readyAt c t i
-  pub at-open : (i : ℕ) → i < 32 → jobAt opn i ≡ openAt c t i
-  pub at-ran : (i : ℕ) → i < 32 → getD ran i false ≡ ranAt c t i
+  pub at-next : next ≡ stateAt c (suc t)
+  pub at-fin : (i : ℕ) → i < 32 → getD fin i false ≡ finishedAt c t i
+  pub at-dem : (i : ℕ) → i < 32 → getD dem i false ≡ demotedAt c t i
 
-module _ (c : Case) (g : Legal c) (t k : ℕ) (w : Reached (c .trace) k (suc t)) (place : List ℕ) (ready opn : Run) (ran : List Bool)
-    (o : Handed c t k place ready opn ran) (rest : List ℕ) where
+module _ (c : Case) (g : Legal c) (t k : ℕ) (w : Reached (c .trace) k (suc t)) (place : List ℕ) (next : Run) (fin dem : List Bool)
+    (o : Handed c t k place next fin dem) (rest : List ℕ) where
   abbrev n : ℕ
   n = releaseCount (c .trace)
+
+  late-at : (i : ℕ) → isMissed (suc t) (jobAt next i) ≡ missedAt c (suc t) i
+  unfolding missedAt missed
+  late-at i = ap (λ (r : Run). isMissed (suc t) (jobAt r i)) (o .at-next)
 
   -- the records when the tasks below i have been noted
   abbrev mixed : ℕ → ℕ → Record
@@ -105,44 +103,47 @@ module _ (c : Case) (g : Legal c) (t k : ℕ) (w : Reached (c .trace) k (suc t))
       go (no a) (yes b) = mixed-old i j (omega arith) ∙ sym (h (omega arith)) ∙ sym (mixed-new (suc i) j b)
       go (no a) (no b) = mixed-old i j (omega arith) ∙ sym (mixed-old (suc i) j (omega arith))
 
-  one : (i : ℕ) → i < 32 → noteOne (isCf (setupIn c)) t place ready opn ran i (numbers (tab (mixed i) 0 n) ++ rest) ≡ numbers (tab (mixed (suc i)) 0 n) ++ rest
+  one : (i : ℕ) → i < 32 → noteOne t place next fin dem i (numbers (tab (mixed i) 0 n) ++ rest) ≡ numbers (tab (mixed (suc i)) 0 n) ++ rest
   unfolding noteOne
-  one i h = rw (o .at-open i h) (go (isPresent (openAt c t i)) refl)
+  one i h =
+      rw (o .at-place i h, o .at-fin i h, o .at-dem i h, late-at i)
+      (go (event (finishedAt c t i) (demotedAt c t i) (missedAt c (suc t) i)) refl)
     where
-      go : (b : Bool) → isPresent (openAt c t i) ≡ b
+      p : ℕ
+      p = lastPlace (c .trace) k (suc i)
+
+      go : (b : Bool) → event (finishedAt c t i) (demotedAt c t i) (missedAt c (suc t) i) ≡ b
           → pick b
-          (put3 (numbers (tab (mixed i) 0 n) ++ rest) (getD place i 0)
-          (noted t (getD ran i false && leb (leftOf (openAt c t i)) 1) (isCf (setupIn c) && isDemotedNow (jobAt ready i)) (dueOf (openAt c t i))
-          (getD (numbers (tab (mixed i) 0 n) ++ rest) (getD place i 0 * 3 + 2) 0))) (numbers (tab (mixed i) 0 n) ++ rest)
+          (put3 (numbers (tab (mixed i) 0 n) ++ rest) (lastPlace (c .trace) k (suc i))
+          (entry t (finishedAt c t i) (demotedAt c t i) (missedAt c (suc t) i)
+          (getD (numbers (tab (mixed i) 0 n) ++ rest) (lastPlace (c .trace) k (suc i) * 3 + 2) 0))) (numbers (tab (mixed i) 0 n) ++ rest)
           ≡ numbers (tab (mixed (suc i)) 0 n) ++ rest
-      go false e = ap (λ (l : List Record). numbers l ++ rest) (tab-cong (mixed i) (mixed (suc i)) 0 n (λ j x y. mixed-more i j (turn-idle c g t k w i h e j (omega arith))))
+      go false e =
+          ap (λ (l : List Record). numbers l ++ rest)
+          (tab-cong (mixed i) (mixed (suc i)) 0 n (λ j x y. mixed-more i j (turn-quiet c t i h g k w e j (omega arith))))
       go true e =
-          let v = turn-live c g t k w i h e in
-          let p = lastPlace (c .trace) k (suc i) in
+          let v = turn-event c t i h g k w e in
           let long : p < length (tab (mixed i) 0 n) = rw (tab-long (mixed i) 0 n) (v .within) in
           let old : getD (tab (mixed i) 0 n) p noRecord ≡ recordBy c t p = tab-at (mixed i) n p noRecord (v .within) ∙ mixed-old i p (omega (arith, v .its)) in
-          let new : noted t (finishedAt c t i) (demotedAt c t i) (dueOf (openAt c t i)) (recordBy c t p .demotion) ≡ mixed (suc i) p =
+          let new : entry t (finishedAt c t i) (demotedAt c t i) (missedAt c (suc t) i) (recordBy c t p .demotion) ≡ mixed (suc i) p =
           sym (v .new) ∙ sym (mixed-new (suc i) p (omega (arith, v .its)))
           in
           let xs = numbers (tab (mixed i) 0 n) ++ rest in
-          stored xs (getD place i 0) p t _ (finishedAt c t i) _ (demotedAt c t i) (dueOf (openAt c t i)) _ (recordBy c t p .demotion)
-          (o .at-place i h)
-          (ap (λ (b : Bool). b && leb (leftOf (openAt c t i)) 1) (o .at-ran i h) ∙ sym (finished-at c i h t))
-          (ap (λ (j : Job). isCf (setupIn c) && isDemotedNow j) (o .at-ready i h) ∙ sym (demoted-at c i h t))
-          (ap (λ (q : ℕ). getD xs (q * 3 + 2) 0) (o .at-place i h) ∙ demotion-at (tab (mixed i) 0 n) p rest long ∙ ap (λ (r : Record). r .demotion) old) ∙
+          let d : getD xs (p * 3 + 2) 0 ≡ recordBy c t p .demotion = demotion-at (tab (mixed i) 0 n) p rest long ∙ ap (λ (r : Record). r .demotion) old in
+          ap (λ (x : ℕ). put3 xs p (entry t (finishedAt c t i) (demotedAt c t i) (missedAt c (suc t) i) x)) d ∙
           ap (put3 xs p) new ∙ put3-at (tab (mixed i) 0 n) p (mixed (suc i) p) rest long ∙
           ap (λ (l : List Record). numbers l ++ rest) (tab-set (mixed i) (mixed (suc i)) n p (v .within)
           (λ j x y. mixed-more i j (λ q. v .others j x q y)))
 
-  all-to : (i : ℕ) → i ≤ 32 → noteTo (isCf (setupIn c)) t place ready opn ran i (numbers (tab (mixed 0) 0 n) ++ rest) ≡ numbers (tab (mixed i) 0 n) ++ rest
+  all-to : (i : ℕ) → i ≤ 32 → noteTo t place next fin dem i (numbers (tab (mixed 0) 0 n) ++ rest) ≡ numbers (tab (mixed i) 0 n) ++ rest
   unfolding noteTo
   all-to zero h = refl
-  all-to (suc i) h = ap (noteOne (isCf (setupIn c)) t place ready opn ran i) (all-to i (omega arith)) ∙ one i (omega arith)
+  all-to (suc i) h = ap (noteOne t place next fin dem i) (all-to i (omega arith)) ∙ one i (omega arith)
 
   -- the stores of the slot at t bring the records as they stand at t to those as they stand at t + 1
-  pub noted-all : noteTo (isCf (setupIn c)) t place ready opn ran 32 (numbers (tab (recordBy c t) 0 n) ++ rest) ≡ numbers (tab (recordBy c (suc t)) 0 n) ++ rest
+  pub noted-all : noteTo t place next fin dem 32 (numbers (tab (recordBy c t) 0 n) ++ rest) ≡ numbers (tab (recordBy c (suc t)) 0 n) ++ rest
   noted-all =
-      ap (λ (l : List Record). noteTo (isCf (setupIn c)) t place ready opn ran 32 (numbers l ++ rest))
+      ap (λ (l : List Record). noteTo t place next fin dem 32 (numbers l ++ rest))
       (tab-cong (recordBy c t) (mixed 0) 0 n (λ j x y. sym (mixed-old 0 j (omega (arith, g .named j (omega arith)))))) ∙
       all-to 32 (omega arith) ∙
       ap (λ (l : List Record). numbers l ++ rest)

@@ -151,6 +151,12 @@ verdict-some (suc f) a b h = refl
 abbrev pub noted : ℕ → Bool → Bool → ℕ → ℕ → Record
 noted t fin dm due d = recordOf (verdictOf (pick fin (suc t) 0) (leb due (suc t))) (pick fin (suc t) 0) (pick dm (suc t) d)
 
+-- of the job of task i released at a that is there at t: its deadline, its record as it stands, and its record after the slot
+pub record LiveAt (c : Case) (i a t : ℕ) : Type 0 where
+  pub due : dueOf (openAt c t i) ≡ a + deadline (c .table) i
+  pub before : jobRecord c i a t ≡ recordOf 3 0 (demotionBy c i a t)
+  pub behind : jobRecord c i a (suc t) ≡ noted t (finishedAt c t i) (demotedAt c t i) (a + deadline (c .table) i) (demotionBy c i a t)
+
 module _ (c : Case) (i a : ℕ) (s : Sole c i a) (pos : 0 < deadline (c .table) i) where
   -- the record depends only on how many of its slots have been, and on whether its deadline has come
   same-slots : (t u : ℕ) → slotsBy c i a t ≡ slotsBy c i a u → leb (a + deadline (c .table) i) t ≡ leb (a + deadline (c .table) i) u
@@ -205,9 +211,7 @@ module _ (c : Case) (i a : ℕ) (s : Sole c i a) (pos : 0 < deadline (c .table) 
             idle-demotes true = refl
             idle-demotes false = refl
 
-    pub live-at : isPresent (openAt c (a + n) i) ≡ true
-        → (dueOf (openAt c (a + n) i) ≡ a + deadline (c .table) i) ×
-        (jobRecord c i a (suc (a + n)) ≡ noted (a + n) (finishedAt c (a + n) i) (demotedAt c (a + n) i) (a + deadline (c .table) i) (demotionBy c i a (a + n)))
+    pub live-at : isPresent (openAt c (a + n) i) ≡ true → LiveAt c i a (a + n)
     unfolding demotionBy
     live-at e = go (ready c i a s n h)
       where
@@ -218,17 +222,17 @@ module _ (c : Case) (i a : ℕ) (s : Sole c i a) (pos : 0 < deadline (c .table) 
         dem-next true (Normal x y z) (suc d) v q = absurd (false≢true q)
         dem-next true (Demoted x y) (suc d) v q = refl
 
-        go : Stand fin dem (a + deadline (c .table) i) (readyAt c (a + n) i)
-            → (dueOf (openAt c (a + n) i) ≡ a + deadline (c .table) i) ×
-            (jobRecord c i a (suc (a + n)) ≡ noted (a + n) (finishedAt c (a + n) i) (demotedAt c (a + n) i) (a + deadline (c .table) i) (demotionBy c i a (a + n)))
+        go : Stand fin dem (a + deadline (c .table) i) (readyAt c (a + n) i) → LiveAt c i a (a + n)
         go (inr (p, z)) = absurd (true≢false (sym e ∙ kept .there ∙ ap isPresent z))
-        go (inl (z, v)) = (
-          kept .due ∙ v .its,
-          next ∙
+        go (inl (z, v)) = record {
+          due = kept .due ∙ v .its;
+          before = now ∙ rw (z, lt-leb (a + deadline (c .table) i) (a + n) (omega arith), slots-at n (omega arith));
+          behind =
+              next ∙
               rw (
                 orElse-none fin (suc (a + n)) (finishedAt c (a + n) i) z,
                 demoted-at c i (s .task) (a + n),
                 slots-at n (omega arith),
                 dem-next (isCf (setupIn c)) (readyAt c (a + n) i) dem (suc (a + n)) (v .lowly),
-              ),
-        )
+              );
+        }

@@ -12,7 +12,7 @@ use borrow.Author.Tests.{eqb-true, eqb-false}
 use Rattle.rules.specs.Words.{pick}
 use Rattle.rules.specs.Case.{Case, period, deadline, releaseCount, timeOf, nameOf}
 use Rattle.rules.specs.Slot.{isPresent, dueOf, isCf}
-use Rattle.rules.specs.Replay.{setupIn, releasedAt, stateAt, finishedAt, demotedAt, demotionBy, jobRecord, recordBy}
+use Rattle.rules.specs.Replay.{setupIn, releasedAt, stateAt, finishedAt, demotedAt, demotionBy, recordOf, jobRecord, recordBy}
 use Rattle.rules.specs.declared.Job.the-variants.{Idle}
 use Rattle.bridge.specs.Steps.{lowers}
 use Rattle.bridge.specs.Jobs.{kept-opened}
@@ -91,6 +91,8 @@ module _ (c : Case) (g : Legal c) (t k : ℕ) (w : Reached (c .trace) k (suc t))
     pub record Live : Type 0 where
       pub within : lastPlace (c .trace) k (suc i) < releaseCount (c .trace)
       pub its : nameOf (c .trace) (lastPlace (c .trace) k (suc i)) ≡ suc i
+      pub early : t < dueOf (openAt c t i)
+      pub old : recordBy c t (lastPlace (c .trace) k (suc i)) ≡ recordOf 3 0 (recordBy c t (lastPlace (c .trace) k (suc i)) .demotion)
       pub new : recordBy c (suc t) (lastPlace (c .trace) k (suc i)) ≡
           noted t (finishedAt c t i) (demotedAt c t i) (dueOf (openAt c t i)) (recordBy c t (lastPlace (c .trace) k (suc i)) .demotion)
       pub others : (j : ℕ) → j < releaseCount (c .trace) → nameOf (c .trace) j ≡ suc i → (j ≡ lastPlace (c .trace) k (suc i) → ⊥)
@@ -140,10 +142,16 @@ module _ (c : Case) (g : Legal c) (t k : ℕ) (w : Reached (c .trace) k (suc t))
                 record {
                   within = h;
                   its = q;
-                  new = fresh-record z (u .0) (u .1);
+                  early = rw (u .due) (omega arith);
+                  old = same-record z (u .before);
+                  new = fresh-record z (u .due) (u .behind);
                   others = λ j n r x. keep j n (λ a b. absurd (other j n r x a b (decLt j p) (decLt j k)));
                 }
               where
+                same-record : taskAt c p ≡ i → jobRecord c i (timeOf (c .trace) p) t ≡ recordOf 3 0 (demotionBy c i (timeOf (c .trace) p) t)
+                    → recordBy c t p ≡ recordOf 3 0 (recordBy c t p .demotion)
+                same-record z b = rw z b
+
                 fresh-record : taskAt c p ≡ i → dueOf (openAt c t i) ≡ timeOf (c .trace) p + deadline (c .table) i
                     → jobRecord c i (timeOf (c .trace) p) (suc t) ≡
                     noted t (finishedAt c t i) (demotedAt c t i) (timeOf (c .trace) p + deadline (c .table) i) (demotionBy c i (timeOf (c .trace) p) t)

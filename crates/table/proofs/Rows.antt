@@ -1,5 +1,5 @@
 -- A row of tests, of which the first that fails is given.
-use mathlib.Core.Path.{_≡_, ap, sym, _∙_}
+use mathlib.Core.Path.{_≡_, refl, ap, sym, _∙_}
 use mathlib.Core.Bool.{_&&_}
 use mathlib.Core.List.{List}
 use Prim.Native.Nat.{ℕ, _%_, _≤_}
@@ -9,10 +9,10 @@ use lib.ListN.{length}
 use borrow.Author.Tests.{leb-true}
 use Rattle.rules.specs.declared.Fault.{Fault}
 use Rattle.rules.specs.Case.{caseOf, taskCount, releaseCount}
-use Rattle.rules.specs.Refusals.{orNext, tableFault, taskFault, tasksFault, endFault, traceFault}
+use Rattle.rules.specs.Refusals.{orNext, procsFault, roomFault, countsFault, tableFault, taskFault, tasksFault, endFault, traceFault}
 use Rattle.rules.specs.Limits.{maxEnd}
 use Rattle.bridge.specs.Firsts.{next-none, next-some}
-use Rattle.bridge.specs.Legal.{and-right, unless-clear, firstOf-clear, clear-good}
+use Rattle.bridge.specs.Legal.{and-right, unless-clear, next-clear, firstOf-clear, clear-good}
 use Rattle.table.specs.Needs.{Sound}
 
 pub stop : (x f r : Fault) → x ≡ f → (x .number ≡ 0 → ⊥) → x ≡ orNext f r
@@ -45,3 +45,26 @@ unfolding traceFault
 few-releases rs x f h =
     leb-true _ 2000 (and-right (eqb (length rs % 2) 0) (leb (releaseCount rs) 2000)
     (unless-clear (eqb (length rs % 2) 0 && leb (releaseCount rs) 2000) 12 0 (omega arith) (clear x _ f h)))
+
+-- ---- what the calls' checks give where they find nothing
+pub few-procs : (m : ℕ) → procsFault m .number ≡ 0 → m ≤ 32
+unfolding procsFault
+few-procs m e = leb-true m 32 (and-right (leb 1 m) _ (unless-clear (leb 1 m && leb m 32) 4 0 (omega arith) e))
+
+pub enough-room : (need room : ℕ) → roomFault need room .number ≡ 0 → need ≤ room
+unfolding roomFault
+enough-room need room e = leb-true need room (unless-clear _ 13 0 (omega arith) e)
+
+pub record CountsClear (m : ℕ) (ts : List ℕ) (room : ℕ) : Type 0 where
+  pub procs : m ≤ 32
+  pub sound : Sound ts
+  pub roomy : taskCount ts ≤ room
+
+pub counts-clear : (m : ℕ) (ts : List ℕ) (room : ℕ) → countsFault m ts room .number ≡ 0 → CountsClear m ts room
+unfolding countsFault
+counts-clear m ts room e =
+    let a = next-clear (procsFault m) _ e in
+    let b = next-clear (tableFault ts) _ (a .1) in
+    let d = next-clear (tasksFault ts) _ (b .1) in
+    let f = next-clear (roomFault (taskCount ts) room) _ (d .1) in
+    record { procs = few-procs m (a .0); sound = sound-table ts _ _ refl (b .0) refl (d .0); roomy = enough-room (taskCount ts) room (f .0) }

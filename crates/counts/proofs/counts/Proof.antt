@@ -1,0 +1,34 @@
+-- `counts::counts` meets its contract: a refusal leaves the room, else the free counts are laid in it.
+use mathlib.Core.Path.{_∙_}
+use Rattle.rules.specs.Calls.{countsAnswer, countsRoom}
+use Rattle.bridge.specs.Settled.{refuses, leaves, settles, puts, clear}
+use Rattle.table.proofs.Rows.{counts-clear}
+use borrow.Author.Needs.{needs}
+use Rattle.counts.proofs.counts.Statement.{statement}
+use Rattle.counts.proofs.counts.Tie as tie
+
+counts-fault-requires : tie.Need-counts-fault-requires
+counts-fault-requires c κs = search needs
+
+returns : tie.Need-returns
+unfolding countsAnswer countsRoom
+returns c = (refuses _ _ (c .before .counts-fault .ensures) _ (c .if1 .taken), leaves _ _ (c .before .counts-fault .ensures) _ _ (c .if1 .taken))
+
+put-counts-requires : tie.Need-put-counts-requires
+put-counts-requires c κs =
+    let w = counts-clear _ _ _ (clear _ _ (c .before .before .counts-fault .ensures) (c .before .if1 .left)) in
+    (w .sound, w .procs, w .roomy)
+
+same-length : tie.Need-same-length
+same-length c = search needs
+
+returns-2 : tie.Need-returns-2
+unfolding countsAnswer countsRoom
+returns-2 c =
+    let e = c .before .before .before .before .before .counts-fault .ensures in
+    let h = c .before .before .before .before .if1 .left in
+    (settles _ _ e _ h, c .before .before .put-counts .ensures ∙ puts _ _ e _ _ h)
+
+pub counts-spec : {M : Type 1} → statement M
+counts-spec =
+    tie.close (tie.spec counts-fault-requires returns put-counts-requires same-length returns-2)

@@ -1,0 +1,11 @@
+-- What the counts say to the replay, beside the rules.
+use Prim.Native.Nat.{ℕ, _<_}
+use mathlib.Core.Path.{_≡_}
+use mathlib.Core.List.{List}
+use lib.ListN.{getD}
+use Rattle.rules.specs.Case.{taskCount}
+use Rattle.rules.specs.Counts.{freeCount}
+
+-- an array that holds the free count of each task of the table
+abbrev pub Counts : ℕ → List ℕ → List ℕ → Type 0
+Counts m ts counts = (i : ℕ) → i < taskCount ts → getD counts i 0 ≡ freeCount m ts i
