@@ -1,0 +1,9 @@
+pub mod Numbers
+pub mod Order
+pub mod Places
+pub mod Queues
+pub mod Choice
+pub mod Marks
+pub mod Stirs
+pub mod Opens
+pub mod Works

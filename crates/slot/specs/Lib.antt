@@ -1,0 +1,4 @@
+pub mod Needed
+pub mod Passes
+pub mod Queues
+pub mod Stepped
