@@ -1,13 +1,13 @@
 -- Steps 4 to 6 of a run are steps 4 to 6 of each task, and a slot is its passes.
 use mathlib.Core.Path.{_≡_, refl, ap, ap₂, sym, _∙_}
-use mathlib.Core.Bool.{Bool, true, false, _&&_, true≢false}
+use mathlib.Core.Bool.{Bool, true, false, _&&_}
 use mathlib.Core.List.{List}
-use Prim.Native.Nat.{ℕ, suc, _+_, _≤_, _<_}
+use Prim.Native.Nat.{ℕ, _≤_, _<_}
 use native.Mathlib.Omega.{arith}
 use lib.Dec.{eqb, leb, ltb}
-use lib.ListN.{length, getD, set}
-use Rattle.rules.specs.Words.{pick, bit, mapAt, tab}
-use Rattle.rules.specs.Slot.{Setup, TaskSet, isCf, noTask, runOf, withJob, jobAt, isPresent, leftOf, dueOf, kind, present, eachTask, readied, demoted, jobsNow, contentionFree, loweredJob, loweredTask, lowered, opened, inTurn, jobBefore, comesBefore, rank, chosen, lastUnit, workedJob, workedTask, worked, after, ran, finished, missed, demotedNow}
+use lib.ListN.{getD}
+use Rattle.rules.specs.Words.{pick, bit}
+use Rattle.rules.specs.Slot.{Setup, TaskSet, isCf, noTask, runOf, withJob, jobAt, isPresent, leftOf, dueOf, kind, present, eachTask, demoted, jobsNow, contentionFree, loweredTask, lowered, opened, jobBefore, comesBefore, rank, chosen, lastUnit, workedTask, worked, after, ran, finished, missed}
 use Rattle.rules.specs.declared.Job.{Job}
 use Rattle.rules.specs.declared.Job.the-variants.{Idle, Normal, Demoted}
 use Rattle.rules.specs.declared.Task.{Task}
@@ -18,7 +18,6 @@ use Rattle.bridge.specs.Sums.{sum-cong}
 use Rattle.bridge.specs.Fuse.{fuse, keep-all, same-each}
 use Rattle.slot.specs.declared.Stirred.{Stirred}
 use Rattle.slot.specs.declared.Worked.{Worked}
-use Rattle.slot.specs.declared.Slotted.{Slotted}
 use Rattle.slot.specs.Queues.{Queued, limitOf}
 use Rattle.slot.specs.Passes.{Stirs, calmedJob, endedJob, endedTask, runsBy, Works}
 use Rattle.slot.specs.Stepped.{Stepped}

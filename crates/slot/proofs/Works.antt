@@ -1,5 +1,5 @@
 -- The last pass as it goes on: steps 4 to 6 of each task up to i, with the sets that ran and finished.
-use mathlib.Core.Path.{_≡_, refl, ap, ap₂, sym, _∙_}
+use mathlib.Core.Path.{_≡_, ap, sym, _∙_}
 use mathlib.Core.Bool.{Bool, true, false, _&&_}
 use mathlib.Core.List.{List}
 use Prim.Native.Nat.{ℕ, _+_, _≤_, _<_}
@@ -7,14 +7,12 @@ use lib.Dec.{leb}
 use lib.ListN.{getD, set}
 use Rattle.rules.specs.Words.{mapAt}
 use Rattle.rules.specs.Slot.{TaskSet, noTask, runOf, jobAt, isPresent, leftOf, lastUnit}
-use Rattle.rules.specs.declared.Job.{Job}
 use Rattle.rules.specs.declared.Job.the-variants.{Idle}
 use Rattle.rules.specs.declared.Task.{Task}
 use Rattle.rules.specs.declared.Run.{Run}
 use Rattle.bridge.specs.Steps.{Full}
 use Rattle.bridge.specs.Fill.{Filling, filling-at, each-none, each-store, each-keep, filling-all}
-use Rattle.slot.specs.declared.Worked.{Worked}
-use Rattle.slot.specs.Queues.{keyOf, Keyed}
+use Rattle.slot.specs.Queues.{Keyed}
 use Rattle.slot.specs.Passes.{endedTask, runsBy, Works}
 use Rattle.slot.proofs.Marks.{nobody, Marking, mark-none, mark-store, mark-keep, mark-all}
 use Rattle.slot.proofs.Stirs.{idle-job}

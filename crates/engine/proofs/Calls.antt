@@ -1,0 +1,53 @@
+-- What the checks of the replay and of the running set give where they find nothing, and the totals that are read off the room.
+use mathlib.Core.Path.{_≡_, ap, sym, _∙_}
+use mathlib.Core.List.{List, [], _∷_, _++_}
+use Prim.Native.Nat.{ℕ, _*_, _≤_, _<_}
+use native.Mathlib.Omega.{arith}
+use lib.Dec.{eqb, leb, ltb}
+use lib.ListN.{length, getD, drop, length-append}
+use borrow.Author.Tests.{leb-true, ltb-true}
+use Rattle.rules.specs.Words.{countIn}
+use Rattle.rules.specs.Case.{Case, releaseCount}
+use Rattle.rules.specs.Refusals.{noFault, caseFault, roomFault, slotFault, replayFault, runningFault, Accepted}
+use Rattle.rules.specs.Replay.{records, recordBy, numbers, marked}
+use Rattle.rules.specs.Calls.{roomAfter}
+use Rattle.bridge.specs.Lists.{tab-long}
+use Rattle.bridge.specs.Legal.{legal, next-clear, unless-clear}
+use Rattle.bridge.specs.Notes.{numbers-long, marked-in}
+use Rattle.table.specs.Needs.{Sound}
+
+pub sound : (c : Case) → Accepted c → Sound (c .table)
+sound c ok = let g = legal c ok in record { few = g .tasks-few; good = g .good }
+
+pub replay-clear : (c : Case) (room : ℕ) → replayFault c room .number ≡ 0 → Accepted c × (releaseCount (c .trace) * 3 ≤ room)
+unfolding replayFault Accepted roomFault
+replay-clear c room e =
+    let a = next-clear (caseFault c) _ e in
+    let b = next-clear (roomFault (releaseCount (c .trace) * 3) room) noFault (a .1) in
+    (a .0, leb-true _ _ (unless-clear (leb (releaseCount (c .trace) * 3) room) 13 0 (omega arith) (b .0)))
+
+pub running-clear : (c : Case) (s : ℕ) → runningFault c s .number ≡ 0 → Accepted c × (s < c .end)
+unfolding runningFault Accepted slotFault
+running-clear c s e =
+    let a = next-clear (caseFault c) _ e in
+    let b = next-clear (slotFault (c .end) s) noFault (a .1) in
+    (a .0, ltb-true _ _ (unless-clear (ltb s (c .end)) 15 0 (omega arith) (b .0)))
+
+module _ (c : Case) (room out : List ℕ) (o : out ≡ roomAfter c room) where
+  pub still-fits : releaseCount (c .trace) * 3 ≤ length out
+  unfolding roomAfter
+  still-fits =
+      let a = ap length o ∙ length-append (numbers (records c)) (drop (releaseCount (c .trace) * 3) room) in
+      omega (arith, a, numbers-long (records c), tab-long (recordBy c (c .end)) 0 (releaseCount (c .trace)))
+
+  pub total : (v m : ℕ) → m ≡ countIn (λ j. eqb (getD out (j * 3) 0) v) 0 (releaseCount (c .trace)) → m ≡ marked v (records c)
+  unfolding roomAfter
+  total v m h =
+      h ∙ ap (λ (l : List ℕ). countIn (λ j. eqb (getD l (j * 3) 0) v) 0 (releaseCount (c .trace))) o ∙
+      ap (countIn (λ j. eqb (getD (numbers (records c) ++ drop (releaseCount (c .trace) * 3) room) (j * 3) 0) v) 0)
+      (sym (tab-long (recordBy c (c .end)) 0 (releaseCount (c .trace)))) ∙
+      marked-in v (records c) (drop (releaseCount (c .trace) * 3) room)
+
+-- three results that are the totals
+pub totals : (a b d x y z : ℕ) → a ≡ x → b ≡ y → d ≡ z → _≡_ {A = List ℕ} (a ∷ b ∷ d ∷ []) (x ∷ y ∷ z ∷ [])
+totals a b d x y z p q r = rw (p, q, r)

@@ -1,0 +1,5 @@
+pub mod Trace
+pub mod Room
+pub mod Powers
+pub mod Going
+pub mod Calls

@@ -1,0 +1,120 @@
+-- A walk over the releases of one time.
+use mathlib.Core.Path.{_≡_, refl, ap, sym, _∙_}
+use mathlib.Core.Bool.{Bool, true, false, _&&_, _||_, or-false}
+use mathlib.Core.Logic.{_⊎_, inl, inr}
+use mathlib.Core.List.{List}
+use Prim.Native.Nat.{ℕ, zero, suc, _+_, _-_, _≤_, _<_}
+use native.Mathlib.Nat.{eq-or-lt-of-le}
+use native.Mathlib.Numerals.{add-one}
+use native.Mathlib.Decide.{decLt}
+use native.Mathlib.Omega.{arith}
+use lib.Dec.{eqb}
+use lib.ListN.{set}
+use borrow.Author.Tests.{eqb-true, eq-eqb, ne-eqb}
+use Rattle.rules.specs.Words.{tab}
+use Rattle.rules.specs.Case.{releaseCount, timeOf, nameOf}
+use Rattle.rules.specs.Replay.{releasedIn}
+use Rattle.bridge.specs.Lists.{tab-cong, tab-set}
+use Rattle.bridge.specs.Turn.{lastPlace, Reached}
+use Rattle.bridge.specs.Records.{released-no}
+use Rattle.engine.specs.Walks.{Orderly, places, releases}
+
+pub record Taking (rs : List ℕ) (clock k : ℕ) (place : List ℕ) (released : List Bool) : Type 0 where
+  pub within : k ≤ releaseCount rs
+  pub early : (j : ℕ) → j < k → timeOf rs j < suc clock
+  pub late : (j : ℕ) → k ≤ j → j < releaseCount rs → clock ≤ timeOf rs j
+  pub at-place : place ≡ places rs k
+  pub at-released : released ≡ releases rs k clock
+
+pub nobody : List Bool
+nobody = tab (λ i. false) 0 32
+
+pub taking-none : (rs : List ℕ) (clock from : ℕ) (place : List ℕ) → Reached rs from clock → place ≡ places rs from
+    → Taking rs clock from place (tab (λ i. false) 0 32)
+taking-none rs clock from place w e = record {
+  within = w .within;
+  early = λ j h. omega (arith, w .before j h);
+  late = w .behind;
+  at-place = e;
+  at-released = sym (tab-cong (releasedIn rs from clock) (λ i. false) 0 32
+      (λ i p q. released-no rs from clock i (λ j h x y. omega (arith, w .before j h))));
+}
+
+-- a release more
+released-new : (rs : List ℕ) (k t i : ℕ) → timeOf rs k ≡ t → nameOf rs k ≡ suc i → releasedIn rs (suc k) t i ≡ true
+unfolding releasedIn
+released-new rs k t i e f = rw (eq-eqb (timeOf rs k) t e, eq-eqb (nameOf rs k) (suc i) f) (or-true (releasedIn rs k t i))
+  where
+    or-true : (b : Bool) → (b || true) ≡ true
+    or-true true = refl
+    or-true false = refl
+
+released-old : (rs : List ℕ) (k t i : ℕ) → (timeOf rs k ≡ t → nameOf rs k ≡ suc i → ⊥) → releasedIn rs (suc k) t i ≡ releasedIn rs k t i
+unfolding releasedIn
+released-old rs k t i h = rw (no (eqb (timeOf rs k) t) refl (eqb (nameOf rs k) (suc i)) refl) (or-false (releasedIn rs k t i))
+  where
+    no : (a : Bool) → eqb (timeOf rs k) t ≡ a → (b : Bool) → eqb (nameOf rs k) (suc i) ≡ b → (eqb (timeOf rs k) t && eqb (nameOf rs k) (suc i)) ≡ false
+    no true p true q = absurd (h (eqb-true _ _ p) (eqb-true _ _ q))
+    no true p false q = rw (p, q)
+    no false p b q = rw p
+
+place-new : (rs : List ℕ) (k name : ℕ) → nameOf rs k ≡ name → lastPlace rs (suc k) name ≡ k
+unfolding lastPlace
+place-new rs k name e = rw (eq-eqb (nameOf rs k) name e)
+
+place-old : (rs : List ℕ) (k name : ℕ) → (nameOf rs k ≡ name → ⊥) → lastPlace rs (suc k) name ≡ lastPlace rs k name
+unfolding lastPlace
+place-old rs k name h = rw (ne-eqb (nameOf rs k) name h)
+
+pub taking-more : (rs : List ℕ) (clock k v : ℕ) (place : List ℕ) (released : List Bool) → Orderly rs → k < releaseCount rs → timeOf rs k ≡ clock
+    → v ≡ nameOf rs k - 1 → Taking rs clock k place released → Taking rs clock (k + 1) (set place v k) (set released v true)
+taking-more rs clock k v place released u h e z w =
+    let n = u .named k h in
+    let name : nameOf rs k ≡ suc v = omega arith in
+    let small : v < 32 = omega arith in
+    rw (add-one k) (record {
+      within = omega arith;
+      early = λ j l. early j (eq-or-lt-of-le {n = j} {m = k} (omega arith));
+      late = λ j l m. w .late j (omega arith) m;
+      at-place = rw (w .at-place) (rw (place-new rs k (suc v) name) at
+          (tab-set (λ i. lastPlace rs k (suc i)) (λ i. lastPlace rs (suc k) (suc i)) 32 v small
+          (λ i l q. sym (place-old rs k (suc i) (λ x. q (omega arith))))));
+      at-released = rw (w .at-released) (rw (released-new rs k clock v e name) at
+          (tab-set (releasedIn rs k clock) (releasedIn rs (suc k) clock) 32 v small
+          (λ i l q. sym (released-old rs k clock i (λ x y. q (omega arith))))));
+    })
+  where
+    early : (j : ℕ) → (j ≡ k) ⊎ (j < k) → timeOf rs j < suc clock
+    early j (inl x) = omega (arith, ap (timeOf rs) x)
+    early j (inr x) = w .early j x
+
+-- no release of the time from k on
+released-rest : (rs : List ℕ) (k t i d : ℕ) → ((j : ℕ) → k ≤ j → j < k + d → timeOf rs j ≡ t → ⊥) → releasedIn rs (k + d) t i ≡ releasedIn rs k t i
+released-rest rs k t i zero h = let z : k + 0 ≡ k = omega arith in rw z
+released-rest rs k t i (suc d) h =
+    let z : k + suc d ≡ suc (k + d) = omega arith in
+    rw z (released-old rs (k + d) t i (λ e f. h (k + d) (omega arith) (omega arith) e) ∙ released-rest rs k t i d (λ j p q. h j p (omega arith)))
+
+pub record Took (rs : List ℕ) (clock k : ℕ) (place : List ℕ) (released : List Bool) : Type 0 where
+  pub reached : Reached rs k (suc clock)
+  pub at-place : place ≡ places rs k
+  pub at-released : released ≡ releases rs (releaseCount rs) clock
+
+pub taking-done : (rs : List ℕ) (clock k : ℕ) (place : List ℕ) (released : List Bool) → Orderly rs → (k < releaseCount rs → timeOf rs k ≡ clock → ⊥)
+    → Taking rs clock k place released → Took rs clock k place released
+taking-done rs clock k place released u stop w =
+    let z : k + (releaseCount rs - k) ≡ releaseCount rs = omega (arith, w .within) in
+    record {
+      reached = record { within = w .within; before = w .early; behind = later };
+      at-place = w .at-place;
+      at-released = w .at-released ∙
+          tab-cong (releasedIn rs k clock) (releasedIn rs (releaseCount rs) clock) 0 32
+          (λ i p q. sym (rw z at (released-rest rs k clock i (releaseCount rs - k) (λ j l m e. omega (arith, later j l (omega arith))))));
+    }
+  where
+    later : (j : ℕ) → k ≤ j → j < releaseCount rs → suc clock ≤ timeOf rs j
+    later j p q = go (decLt clock (timeOf rs k))
+      where
+        go : Dec (clock < timeOf rs k) → suc clock ≤ timeOf rs j
+        go (yes x) = omega (arith, u .sorted k j p q)
+        go (no x) = absurd (stop (omega arith) (omega (arith, w .late k (omega arith) (omega arith))))
