@@ -1,0 +1,51 @@
+-- Sums over a window of time, and counting.
+-- Assumes nothing.
+use mathlib.Core.Path.{_≡_, refl, ap, sym}
+use mathlib.Core.Bool.{Bool, true, false}
+use Prim.Native.Nat.{ℕ, zero, suc, _+_, _*_, _≤_, _<_}
+use native.Mathlib.Nat.{add-zero, add-suc, add-assoc, le-refl}
+use native.Mathlib.Omega.{arith}
+use Rattle.rules.specs.Words.{sum, bit, countIn}
+
+pub bit-le : (b : Bool) → bit b ≤ 1
+bit-le true = omega arith
+bit-le false = omega arith
+
+pub sum-split : (f : ℕ → ℕ) (a l k : ℕ) → sum f a (l + k) ≡ sum f a l + sum f (a + l) k
+unfolding sum
+sum-split f a l zero = rw (add-zero l) (omega arith)
+sum-split f a l (suc k) = rw add-suc (omega (arith, sum-split f a l k, ap f (sym (add-assoc a l k))))
+
+pub sum-mono : (f g : ℕ → ℕ) (a l : ℕ) → ((t : ℕ) → a ≤ t → t < a + l → f t ≤ g t) → sum f a l ≤ sum g a l
+unfolding sum
+sum-mono f g a zero h = omega arith
+sum-mono f g a (suc l) h = omega (arith, sum-mono f g a l (λ t p q. h t p (omega arith)), h (a + l) (omega arith) (omega arith))
+
+pub sum-cong : (f g : ℕ → ℕ) (a l : ℕ) → ((t : ℕ) → a ≤ t → t < a + l → f t ≡ g t) → sum f a l ≡ sum g a l
+unfolding sum
+sum-cong f g a zero h = refl
+sum-cong f g a (suc l) h = omega (arith, sum-cong f g a l (λ t p q. h t p (omega arith)), h (a + l) (omega arith) (omega arith))
+
+pub sum-add : (f g : ℕ → ℕ) (a l : ℕ) → sum (λ t. f t + g t) a l ≡ sum f a l + sum g a l
+unfolding sum
+sum-add f g a zero = refl
+sum-add f g a (suc l) = omega (arith, sum-add f g a l)
+
+pub sum-mul : (c : ℕ) (f : ℕ → ℕ) (a l : ℕ) → sum (λ t. c * f t) a l ≡ c * sum f a l
+unfolding sum
+sum-mul c f a zero = omega arith
+sum-mul c f a (suc l) = omega (arith, sum-mul c f a l)
+
+pub sum-const : (c a l : ℕ) → sum (λ t. c) a l ≡ l * c
+unfolding sum
+sum-const c a zero = omega arith
+sum-const c a (suc l) = omega (arith, sum-const c a l)
+
+-- the two sums of a double sum may change places
+pub sum-swap : (f : ℕ → ℕ → ℕ) (a l b n : ℕ) → sum (λ t. sum (λ i. f i t) b n) a l ≡ sum (λ i. sum (λ t. f i t) a l) b n
+unfolding sum
+sum-swap f a l b zero = omega (arith, sum-const 0 a l)
+sum-swap f a l b (suc n) = omega (arith, sum-add (λ t. sum (λ i. f i t) b n) (λ t. f (b + n) t) a l, sum-swap f a l b n)
+
+pub count-le : (p : ℕ → Bool) (a l : ℕ) → countIn p a l ≤ l
+count-le p a l = omega (arith, sum-mono (λ t. bit (p t)) (λ t. 1) a l (λ t x y. bit-le (p t)), sum-const 1 a l)

@@ -1,0 +1,10 @@
+pub mod Tests
+pub mod Avail
+pub mod Window
+pub mod Release
+pub mod Markov
+pub mod Calm
+pub mod Demoted
+pub mod Enough
+pub mod Dominance
+pub mod Demand3
