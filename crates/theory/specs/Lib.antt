@@ -1,10 +1,7 @@
-pub mod Tests
+pub mod Counting
+pub mod Order
 pub mod Avail
 pub mod Window
 pub mod Release
-pub mod Markov
-pub mod Calm
-pub mod Demoted
+pub mod Course
 pub mod Enough
-pub mod Dominance
-pub mod Demand3
