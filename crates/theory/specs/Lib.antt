@@ -5,3 +5,5 @@ pub mod Window
 pub mod Release
 pub mod Course
 pub mod Enough
+pub mod Demoted
+pub mod Dominance
