@@ -12,7 +12,6 @@ use Rattle.rules.specs.declared.Job.{Job}
 use Rattle.rules.specs.declared.Job.the-variants.{Idle, Normal, Demoted}
 use Rattle.rules.specs.Words.{pick, bit, sum, countIn, firstIn}
 use Rattle.rules.specs.Case.{execution, deadline}
-use Rattle.rules.specs.Counts.{freeCount}
 use Rattle.rules.specs.Slot.{jobAt, isPresent, isDemoted, dueOf, isMissed, isCf, loweredJob, lastUnit, workedJob}
 use Rattle.bridge.specs.Steps.{openedJob, judgedJob}
 use Rattle.bridge.specs.Jobs.{Live, Stand, slot-stand, written}
@@ -68,12 +67,12 @@ owed-slot F s false false (Normal l f d) h o = let z : s + 0 ≡ s = omega arith
     go false q = o
 
 -- ---- the job of a release, slot by slot
--- the job of the task at i released at a is the task's only one up to its deadline
-pub record Alone (k : Course) (i a : ℕ) : Type 0 where
+-- step 2 of a gives the task at i a job with free count F, and nothing more of the task is released before the job's deadline
+pub record Alone (k : Course) (i a F : ℕ) : Type 0 where
   pub task : i < 32
   pub some : 1 ≤ execution (k .setup .table) i
   pub lasts : 1 ≤ deadline (k .setup .table) i
-  pub released : k .released a i ≡ true
+  pub given : foundIn k a i ≡ Normal (execution (k .setup .table) i) F (a + deadline (k .setup .table) i)
   pub alone : (u : ℕ) → a < u → u < a + deadline (k .setup .table) i → k .released u i ≡ false
 
 -- step 1 leaves a job whose deadline is ahead
@@ -83,7 +82,7 @@ not-due f d due t j h (inl (e, v)) =
     rw (v .there, n)
 not-due f d due t j h (inr (p, e)) = rw e
 
-module _ (k : Course) (i a : ℕ) (s : Alone k i a) where
+module _ (k : Course) (i a F : ℕ) (s : Alone k i a F) where
   abbrev D : ℕ
   D = deadline (k .setup .table) i
 
@@ -116,7 +115,7 @@ module _ (k : Course) (i a : ℕ) (s : Alone k i a) where
 
   stand : (n : ℕ) → n < D → Stand (fin n) (dem n) (a + D) (foundIn k (a + n) i)
   unfolding firstIn
-  stand zero h = rw (add-zero a, s .released) (inl (refl, record { there = refl; its = refl; lowly = refl }))
+  stand zero h = rw (add-zero a, s .given) (inl (refl, record { there = refl; its = refl; lowly = refl }))
   stand (suc n) h =
       let v = stand-next n (stand n (omega arith)) in
       rw (add-suc a n, found-next n h v) v
@@ -130,10 +129,7 @@ module _ (k : Course) (i a : ℕ) (s : Alone k i a) where
       rw y at (rw z at (stand-next (D - 1) (stand (D - 1) (omega (arith, s .lasts)))))
 
   module _ (cf : isCf (k .setup) ≡ true) (e : ℕ) (attends : Attends k e) (come : a + D ≤ e) where
-    -- the free count that step 2 gives, and the contention-free slots of the first n
-    abbrev F : ℕ
-    F = freeCount (k .setup .procs) (k .setup .table) i
-
+    -- the contention-free slots of the first n
     abbrev seen : ℕ → ℕ
     seen n = countIn (contentionFreeIn k) a n
 
@@ -147,7 +143,7 @@ module _ (k : Course) (i a : ℕ) (s : Alone k i a) where
 
     owed : (n : ℕ) → n < D → Owed F (seen n) (foundIn k (a + n) i)
     unfolding sum
-    owed zero h = rw (add-zero a, s .released) (s .some, omega arith)
+    owed zero h = rw (add-zero a, s .given) (s .some, omega arith)
     owed (suc n) h =
         let v = stand-next n (stand n (omega arith)) in
         rw (add-suc a n, found-next n h v) (owed-next n (omega arith) (owed n (omega arith)))
@@ -158,7 +154,7 @@ module _ (k : Course) (i a : ℕ) (s : Alone k i a) where
         let y : suc (D - 1) ≡ D = omega (arith, s .lasts) in
         rw y at (rw z at (owed-next (D - 1) (omega (arith, s .lasts)) (owed (D - 1) (omega (arith, s .lasts)))))
 
-    module _ (enough : freeCount (k .setup .procs) (k .setup .table) i ≤ countIn (contentionFreeIn k) a (deadline (k .setup .table) i)) where
+    module _ (enough : F ≤ countIn (contentionFreeIn k) a (deadline (k .setup .table) i)) where
       -- at its deadline the job is not there as a demoted one
       pub none-demoted : isDemoted (jobAt (stateIn k (a + deadline (k .setup .table) i)) i) ≡ true → ⊥
       none-demoted = go (jobAt (stateIn k (a + D)) i) owed-at-deadline

@@ -7,3 +7,6 @@ pub mod Course
 pub mod Enough
 pub mod Demoted
 pub mod Dominance
+pub mod Accept
+pub mod Verdicts
+pub mod Demand3

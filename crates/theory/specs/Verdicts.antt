@@ -1,0 +1,29 @@
+-- Verdicts (document 01: met, finished; missed, unfinished at a deadline ≤ end; open, unfinished with a later one) and their totals.
+use mathlib.Core.Path.{_≡_, refl, ap, ap₂, sym, _∙_}
+use mathlib.Core.Bool.{Bool, true, false, false≢true, true≢false}
+use mathlib.Core.List.{List, [], _∷_}
+use Prim.Native.Nat.{ℕ, zero, suc, _+_, _≤_, _<_}
+use native.Mathlib.Omega.{arith}
+use lib.Dec.{eqb}
+use lib.ListN.{length}
+use Rattle.rules.specs.Words.{bit, tab}
+use Rattle.rules.specs.Replay.{Record, verdictOf, verdictBy, recordBy, marked}
+
+pub met-by-finish : (f : ℕ) (come : Bool) → 0 < f → verdictOf f come ≡ 1
+met-by-finish zero come h = absurd (omega arith)
+met-by-finish (suc f) come h = refl
+
+pub finish-of-met : (f : ℕ) (come : Bool) → verdictOf f come ≡ 1 → 0 < f
+finish-of-met zero true e = absurd (omega arith)
+finish-of-met zero false e = absurd (omega arith)
+finish-of-met (suc f) come e = omega arith
+
+pub missed-says : (f : ℕ) (come : Bool) → verdictOf f come ≡ 2 → (f ≡ 0) × (come ≡ true)
+missed-says zero true e = (refl, refl)
+missed-says zero false e = absurd (omega arith)
+missed-says (suc f) come e = absurd (omega arith)
+
+pub open-says : (f : ℕ) (come : Bool) → verdictOf f come ≡ 3 → (f ≡ 0) × (come ≡ false)
+open-says zero true e = absurd (omega arith)
+open-says zero false e = (refl, refl)
+open-says (suc f) come e = absurd (omega arith)
