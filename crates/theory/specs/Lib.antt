@@ -10,3 +10,4 @@ pub mod Dominance
 pub mod Accept
 pub mod Verdicts
 pub mod Demand3
+pub mod Instances
