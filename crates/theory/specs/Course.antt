@@ -82,7 +82,7 @@ foundIn k t i = readiedJob (k .setup) t (k .released t) (stateIn k t) i
 abbrev pub openIn : Course → ℕ → ℕ → Job
 openIn k t i = openedJob (isCf (k .setup)) (isCf (k .setup) && contentionFreeIn k t) (foundIn k t i)
 
-pick-job : (b : Bool) (x y : Task) → pick b x y .job ≡ pick b (x .job) (y .job)
+pub pick-job : (b : Bool) (x y : Task) → pick b x y .job ≡ pick b (x .job) (y .job)
 pick-job true x y = refl
 pick-job false x y = refl
 

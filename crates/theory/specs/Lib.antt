@@ -11,3 +11,4 @@ pub mod Accept
 pub mod Verdicts
 pub mod Demand3
 pub mod Instances
+pub mod Laws

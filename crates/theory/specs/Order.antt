@@ -121,3 +121,16 @@ module _ (g : Setup) (now : ℕ) (r : Run) where
   chosen-all i l h e =
       let k : rank g now r i < g .procs = omega (arith, rank-below i l e) in
       and-both (present r i) _ e (lt-ltb _ _ k)
+
+  -- where a demoted job runs, every normal job that is there runs too
+  pub demoted-last : (j i : ℕ) → j < 32 → chosen g now r i ≡ true → isDemoted (jobAt r i) ≡ true → present r j ≡ true → isDemoted (jobAt r j) ≡ false
+      → chosen g now r j ≡ true
+  unfolding present jobBefore
+  demoted-last j i l e low there high = chosen-down j i l (go (jobAt r j) (jobAt r i) there high low) e
+    where
+      go : (a b : Job) → isPresent a ≡ true → isDemoted a ≡ false → isDemoted b ≡ true → jobBefore (g .policy) now a j b i ≡ true
+      go Idle b x y z = absurd (false≢true x)
+      go (Demoted l d) b x y z = absurd (true≢false y)
+      go (Normal l f d) Idle x y z = absurd (false≢true z)
+      go (Normal l f d) (Normal k u v) x y z = absurd (false≢true z)
+      go (Normal l f d) (Demoted k u) x y z = refl

@@ -2,12 +2,12 @@
 use mathlib.Core.Path.{_≡_, refl, ap, ap₂, sym, _∙_}
 use mathlib.Core.Bool.{Bool, true, false, false≢true, true≢false}
 use mathlib.Core.List.{List, [], _∷_}
-use Prim.Native.Nat.{ℕ, zero, suc, _+_, _≤_, _<_}
+use Prim.Native.Nat.{ℕ, zero, suc, _+_, _-_, _≤_, _<_}
 use native.Mathlib.Omega.{arith}
-use lib.Dec.{eqb}
-use lib.ListN.{length}
+use lib.Dec.{eqb, leb}
 use Rattle.rules.specs.Words.{bit, tab}
-use Rattle.rules.specs.Replay.{Record, verdictOf, verdictBy, recordBy, marked}
+use Rattle.rules.specs.Case.{Case, deadline, timeOf, nameOf}
+use Rattle.rules.specs.Replay.{Record, finishBy, verdictOf, verdictBy, recordBy, marked}
 
 pub met-by-finish : (f : ℕ) (come : Bool) → 0 < f → verdictOf f come ≡ 1
 met-by-finish zero come h = absurd (omega arith)
@@ -27,3 +27,17 @@ pub open-says : (f : ℕ) (come : Bool) → verdictOf f come ≡ 3 → (f ≡ 0)
 open-says zero true e = absurd (omega arith)
 open-says zero false e = (refl, refl)
 open-says (suc f) come e = absurd (omega arith)
+
+-- ---- each record is marked with just one of the three
+one-mark : (f : ℕ) (come : Bool) → bit (eqb (verdictOf f come) 1) + bit (eqb (verdictOf f come) 2) + bit (eqb (verdictOf f come) 3) ≡ 1
+one-mark zero true = refl
+one-mark zero false = refl
+one-mark (suc f) come = refl
+
+pub all-marked : (c : Case) (e k n : ℕ) → marked 1 (tab (recordBy c e) k n) + marked 2 (tab (recordBy c e) k n) + marked 3 (tab (recordBy c e) k n) ≡ n
+unfolding marked tab recordBy verdictBy
+all-marked c e k zero = refl
+all-marked c e k (suc n) =
+    let i = nameOf (c .trace) k - 1 in
+    let a = timeOf (c .trace) k in
+    omega (arith, all-marked c e (suc k) n, one-mark (finishBy c i a e) (leb (a + deadline (c .table) i) e))
