@@ -6,13 +6,16 @@ use Prim.Native.Nat.{ℕ, zero, suc, _+_, _-_, min, _≤_, _<_}
 use native.Mathlib.Decide.{decLt}
 use native.Mathlib.Omega.{arith}
 use lib.Dec.{eqb}
-use borrow.Author.Tests.{eqb-true, eq-eqb}
+use borrow.Author.Tests.{eqb-true, eq-eqb, le-leb}
+use Rattle.rules.specs.declared.Fault.{Fault}
 use Rattle.rules.specs.Words.{firstIn}
 use Rattle.rules.specs.Case.{Case, under, period, deadline, releaseCount, timeOf, nameOf}
 use Rattle.rules.specs.Counts.{freeCount}
+use Rattle.rules.specs.Refusals.{orNext, procsFault, policyFault, caseFault, Accepted}
 use Rattle.rules.specs.Slot.{jobAt, isDemoted}
 use Rattle.rules.specs.Replay.{releasedIn, releasedAt, stateAt, slotsBy, finishBy, demotionBy}
-use Rattle.bridge.specs.Legal.{Legal, Good, and-left, and-right}
+use Rattle.bridge.specs.Legal.{Legal, Good, next-clear, and-left, and-right}
+use Rattle.bridge.specs.Firsts.{next-none}
 use Rattle.bridge.specs.Jobs.{Stand}
 use Rattle.bridge.specs.Stands.{Sole}
 use Rattle.bridge.specs.Records.{taskAt, good-at, sole}
@@ -77,21 +80,20 @@ module _ (c : Case) (g : Legal c) where
   pub alone-at : (j : ℕ) → j < releaseCount (c .trace) → Alone (replayOf c) (taskAt c j) (timeOf (c .trace) j) (freeCount (c .procs) (c .table) (taskAt c j))
   alone-at j h = alone (replayOf c) lawful (taskAt c j) (timeOf (c .trace) j) (sole c g j h .released)
 
-  -- a legal case is legal under either policy
-  pub legal-under : (p : ℕ) → p ≤ 1 → Legal (under p c)
-  legal-under p h = record {
-    procs-some = g .procs-some;
-    procs-few = g .procs-few;
-    policy-known = h;
-    tasks-few = g .tasks-few;
-    good = g .good;
-    end-small = g .end-small;
-    releases-few = g .releases-few;
-    named = g .named;
-    before-end = g .before-end;
-    in-order = g .in-order;
-    separate = g .separate;
-  }
+-- ---- an accepted case is accepted under either policy
+both-clear : (f g : Fault) → f .number ≡ 0 → g .number ≡ 0 → orNext f g .number ≡ 0
+both-clear f g p q = ap (λ (x : Fault). x .number) (next-none f g p) ∙ q
+
+policy-clear : (p : ℕ) → p ≤ 1 → policyFault p .number ≡ 0
+unfolding policyFault
+policy-clear p h = rw (le-leb p 1 h)
+
+pub accepted-under : (c : Case) → Accepted c → (p : ℕ) → p ≤ 1 → Accepted (under p c)
+unfolding Accepted caseFault
+accepted-under c ok p h =
+    let x = next-clear (procsFault (c .procs)) _ ok in
+    let y = next-clear (policyFault (c .policy)) _ (x .1) in
+    both-clear (procsFault (c .procs)) _ (x .0) (both-clear (policyFault p) _ (policy-clear p h) (y .1))
 
 -- ---- finish and demotion of a record are those of the course, once the deadline has come
 module _ (c : Case) (i a e : ℕ) (come : a + deadline (c .table) i ≤ e) where

@@ -24,7 +24,7 @@ use Rattle.theory.specs.Course.{Course, Lawful, Attends, stateIn, conten
 use Rattle.theory.specs.Enough.{enough}
 use Rattle.theory.specs.Demoted.{Alone, demoted-finishes}
 use Rattle.theory.specs.Dominance.{Dom, dominated}
-use Rattle.theory.specs.Accept.{alone, lawful, legal-under, finish-same, demotion-same, stand-due, none-demoted-due}
+use Rattle.theory.specs.Accept.{alone, lawful, accepted-under, finish-same, demotion-same, stand-due, none-demoted-due}
 use Rattle.theory.specs.Verdicts.{met-by-finish, finish-of-met}
 
 -- ---- any course: slots in which any sets are worked
@@ -92,7 +92,7 @@ unfolding recordBy verdictBy
 edf-met-stays-met c ok j h e = go (stand-due (under 0 c) (g 0 (omega arith)) j (h .0) (c .end) (h .1)) (stand-due (under 1 c) (g 1 (omega arith)) j (h .0) (c .end) (h .1))
   where
     g : (p : ℕ) → p ≤ 1 → Legal (under p c)
-    g = legal-under c (legal c ok)
+    g p h = legal (under p c) (accepted-under c ok p h)
 
     i : ℕ
     i = taskAt c j

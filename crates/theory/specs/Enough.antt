@@ -18,7 +18,7 @@ use Rattle.bridge.specs.Legal.{Good}
 use Rattle.bridge.specs.Steps.{judgedJob}
 use Rattle.bridge.specs.Sums.{sum-split, sum-mono, sum-const, sum-swap}
 use Rattle.theory.specs.Counting.{count-cong, count-mono, count-none, over-count, count-both}
-use Rattle.theory.specs.Window.{job, job-in, present, window}
+use Rattle.theory.specs.Window.{span-in, spanned, window}
 use Rattle.theory.specs.Release.{times, sporadic, in-times}
 use Rattle.theory.specs.Course.{Course, Lawful, stateIn, countedIn, contentionFreeIn, foundIn, openIn, course-first, next-in, kept-in, jobs-found}
 
@@ -107,9 +107,9 @@ module _ (k : Course) (g : Lawful k) where
       omega (
         arith,
         w,
-        count-mono (λ t. isPresent (foundIn k t i)) (present rs (deadline ts i)) a l (λ t x y e.
+        count-mono (λ t. isPresent (foundIn k t i)) (spanned rs (deadline ts i)) a l (λ t x y e.
             let f = ready-from k i (omega (arith, g .tasks-few)) (λ u r. pos) t e in
-            in-times rel (deadline ts i) t (f .at) 0 (a + l) (f .released) (omega arith) (omega (arith, f .past)) (job-in (deadline ts i) (f .at) t (omega (arith, f .past)) (f .ahead))),
+            in-times rel (deadline ts i) t (f .at) 0 (a + l) (f .released) (omega arith) (omega (arith, f .past)) (span-in (deadline ts i) (f .at) t (omega (arith, f .past)) (f .ahead))),
       )
 
   no-slots : (i : ℕ) → i < 32 → taskCount ts ≤ i → (t : ℕ) → isPresent (foundIn k t i) ≡ false

@@ -11,4 +11,6 @@ pub mod Accept
 pub mod Verdicts
 pub mod Demand3
 pub mod Instances
+pub mod Past
+pub mod Endings
 pub mod Laws

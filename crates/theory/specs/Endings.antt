@@ -1,0 +1,140 @@
+-- How the job of a release ends, by the states: finished, removed by step 1 at its deadline, or left when step 1 of the end is done.
+use mathlib.Core.Path.{_≡_, refl, ap, ap₂, sym, _∙_}
+use mathlib.Core.Bool.{Bool, true, false, _&&_, false≢true, true≢false}
+use mathlib.Core.Logic.{_⊎_, inl, inr}
+use Prim.Native.Nat.{ℕ, zero, suc, _+_, _-_, min, _≤_, _<_}
+use native.Mathlib.Omega.{arith}
+use lib.Dec.{eqb, leb}
+use lib.ListN.{getD}
+use borrow.Author.Tests.{le-leb, lt-leb, leb-true, leb-false, eq-eqb, eqb-true, ne-eqb}
+use Rattle.rules.specs.declared.Job.{Job}
+use Rattle.rules.specs.declared.Job.the-variants.{Idle}
+use Rattle.rules.specs.declared.Task.{Task}
+use Rattle.rules.specs.declared.Run.{Run}
+use Rattle.rules.specs.Words.{pick, firstIn}
+use Rattle.rules.specs.Case.{Case, deadline, releaseCount, timeOf, nameOf}
+use Rattle.rules.specs.Slot.{noTask, jobAt, isPresent, dueOf, present, isMissed, withJob, judgedTask, judged, missed}
+use Rattle.rules.specs.Replay.{releasedAt, stateAt, closing, missedAt, slotsBy, finishBy, demotionBy, verdictOf}
+use Rattle.bridge.specs.Lists.{mapAt-at}
+use Rattle.bridge.specs.Steps.{Full, judgedJob}
+use Rattle.bridge.specs.Jobs.{Live, Stand}
+use Rattle.bridge.specs.Stands.{Sole, state-full, stands}
+use Rattle.bridge.specs.Legal.{Legal, Good, and-left, and-right}
+use Rattle.bridge.specs.Records.{taskAt, good-at, sole}
+use Rattle.theory.specs.Course.{replayOf, replay-state, stateIn, pick-job}
+use Rattle.theory.specs.Enough.{From, judged-from, state-from}
+use Rattle.theory.specs.Accept.{lawful, released-some, stand-due}
+use Rattle.theory.specs.Verdicts.{missed-says, open-says}
+
+judged-at : (now : ℕ) (r : Run) (i : ℕ) → i < 32 → Full r → jobAt (judged now r) i ≡ judgedJob now (jobAt r i)
+unfolding judged
+judged-at now r i l h =
+    let x = getD (r .tasks) i noTask in
+    ap (λ (t : Task). t .job) (mapAt-at (λ i t. judgedTask now t) (r .tasks) i noTask (omega (arith, h))) ∙ pick-job (isMissed now (x .job)) (withJob x Idle) x
+
+-- ---- where the jobs of the states come from
+module _ (c : Case) (g : Legal c) (i : ℕ) (l : i < 32) where
+  -- a job that stands at t comes from a release before t, and its deadline is not past
+  from-release : (t : ℕ) → isPresent (jobAt (stateAt c t) i) ≡ true → From (replayOf c) i t t (jobAt (stateAt c t) i)
+  from-release t = rw (replay-state c t) at (state-from (replayOf c) i l lasts t)
+    where
+      lasts : (t : ℕ) → releasedAt c t i ≡ true → 0 < deadline (c .table) i
+      lasts t r =
+          let m = g .good i (lawful c g .named t i r) in
+          omega (arith, m .some, m .fits)
+
+  -- what step 1 of the end leaves
+  left-at : jobAt (closing c) i ≡ judgedJob (c .end) (jobAt (stateAt c (c .end)) i)
+  unfolding closing
+  left-at = judged-at (c .end) (stateAt c (c .end)) i l (state-full c (c .end))
+
+  -- a job left at the end has a later deadline
+  left-from : isPresent (jobAt (closing c) i) ≡ true → From (replayOf c) i (c .end) (suc (c .end)) (jobAt (closing c) i)
+  left-from e = rw left-at (judged-from (replayOf c) i (c .end) (jobAt (stateAt c (c .end)) i) (from-release (c .end)) (rw left-at at e))
+
+  -- the release that a job comes from, by its place in the trace
+  place : (t u : ℕ) (x : Job) → From (replayOf c) i t u x → (j : ℕ) × ((j < releaseCount (c .trace)) × (taskAt c j ≡ i) × (dueOf x ≡ timeOf (c .trace) j + deadline (c .table) i))
+  place t u x f =
+      let r = released-some (c .trace) (releaseCount (c .trace)) (f .at) i (f .released) in
+      (r .0, (r .1 .0, omega (arith, r .1 .2), omega (arith, f .due, r .1 .1)))
+
+module _ (c : Case) (g : Legal c) (j : ℕ) (h : j < releaseCount (c .trace)) where
+  abbrev i : ℕ
+  i = taskAt c j
+
+  abbrev a : ℕ
+  a = timeOf (c .trace) j
+
+  abbrev due : ℕ
+  due = a + deadline (c .table) i
+
+  abbrev verdict : ℕ
+  verdict = verdictOf (finishBy c i a (c .end)) (leb due (c .end))
+
+  -- ---- at the deadline
+  pub missed-removed : verdict ≡ 2 → (due ≤ c .end) × (missedAt c due i ≡ true)
+  unfolding missedAt missed
+  missed-removed e =
+      let r = missed-says (finishBy c i a (c .end)) _ e in
+      let come : due ≤ c .end = leb-true _ _ (r .1) in
+      (come, go (r .0) (stand-due c g j h (c .end) come))
+    where
+      go : finishBy c i a (c .end) ≡ 0 → Stand (finishBy c i a (c .end)) (demotionBy c i a (c .end)) due (jobAt (stateAt c due) i) → isMissed due (jobAt (stateAt c due) i) ≡ true
+      go z (inl (q, v)) = rw (v .there) (eq-eqb _ _ (v .its))
+      go z (inr (p, q)) = absurd (omega arith)
+
+  pub removed-missed : due ≤ c .end → missedAt c due i ≡ true → verdict ≡ 2
+  unfolding missedAt missed
+  removed-missed come e = go (stand-due c g j h (c .end) come)
+    where
+      go : Stand (finishBy c i a (c .end)) (demotionBy c i a (c .end)) due (jobAt (stateAt c due) i) → verdict ≡ 2
+      go (inl (q, v)) = rw (q, le-leb due (c .end) come)
+      go (inr (p, q)) = absurd (false≢true (sym (ap isPresent q) ∙ and-left (isPresent (jobAt (stateAt c due) i)) _ e))
+
+  -- ---- at the end
+  -- how the job stands at the end, before step 1, where its deadline is later
+  stand-end : c .end < due → Stand (finishBy c i a (c .end)) (demotionBy c i a (c .end)) due (jobAt (stateAt c (c .end)) i)
+  unfolding finishBy demotionBy slotsBy
+  stand-end later =
+      let n = c .end - suc a in
+      let z : suc (a + n) ≡ c .end = omega (arith, g .before-end j h) in
+      let y : min (deadline (c .table) i) (c .end - a) ≡ suc n = omega (arith, g .before-end j h) in
+      rw y (rw z at (stands c i a (sole c g j h) n (omega (arith, g .before-end j h))))
+
+  pub open-left : verdict ≡ 3 → (isPresent (jobAt (closing c) i) ≡ true) × (dueOf (jobAt (closing c) i) ≡ due)
+  open-left e =
+      let r = open-says (finishBy c i a (c .end)) _ e in
+      let later : c .end < due = leb-false due (c .end) (r .1) in
+      rw (left-at c g i (sole c g j h .task)) (go later (r .0) (stand-end later))
+    where
+      go : c .end < due → finishBy c i a (c .end) ≡ 0 → Stand (finishBy c i a (c .end)) (demotionBy c i a (c .end)) due (jobAt (stateAt c (c .end)) i)
+          → (isPresent (judgedJob (c .end) (jobAt (stateAt c (c .end)) i)) ≡ true) × (dueOf (judgedJob (c .end) (jobAt (stateAt c (c .end)) i)) ≡ due)
+      go later z (inr (p, q)) = absurd (omega arith)
+      go later z (inl (q, v)) =
+          let n : eqb (dueOf (jobAt (stateAt c (c .end)) i)) (c .end) ≡ false = ne-eqb (dueOf (jobAt (stateAt c (c .end)) i)) (c .end) (λ x. omega (arith, v .its)) in
+          rw (v .there, n) (v .there, v .its)
+
+  pub left-open : isPresent (jobAt (closing c) i) ≡ true → dueOf (jobAt (closing c) i) ≡ due → verdict ≡ 3
+  left-open e d =
+      let f = left-from c g i (sole c g j h .task) e in
+      let later : c .end < due = omega (arith, f .ahead, f .due) in
+      go later (stand-end later)
+    where
+      go : c .end < due → Stand (finishBy c i a (c .end)) (demotionBy c i a (c .end)) due (jobAt (stateAt c (c .end)) i) → verdict ≡ 3
+      go later (inl (q, v)) = rw (q, lt-leb due (c .end) later)
+      go later (inr (p, q)) =
+          absurd (false≢true (sym (ap (λ (x : Job). isPresent (judgedJob (c .end) x)) q) ∙ sym (ap isPresent (left-at c g i (sole c g j h .task))) ∙ e))
+
+-- ---- each job removed or left is that of a release
+module _ (c : Case) (g : Legal c) (i : ℕ) (l : i < 32) where
+  pub removed-release : (t : ℕ) → missedAt c t i ≡ true → (j : ℕ) × ((j < releaseCount (c .trace)) × (taskAt c j ≡ i) × (timeOf (c .trace) j + deadline (c .table) i ≡ t))
+  unfolding missedAt missed
+  removed-release t e =
+      let x = jobAt (stateAt c t) i in
+      let r = place c g i l t t x (from-release c g i l t (and-left (isPresent x) _ e)) in
+      let d : dueOf x ≡ t = eqb-true _ _ (and-right (isPresent x) _ e) in
+      (r .0, (r .1 .0, r .1 .1, omega (arith, r .1 .2)))
+
+  pub left-release : isPresent (jobAt (closing c) i) ≡ true
+      → (j : ℕ) × ((j < releaseCount (c .trace)) × (taskAt c j ≡ i) × (dueOf (jobAt (closing c) i) ≡ timeOf (c .trace) j + deadline (c .table) i))
+  left-release e = place c g i l _ _ (jobAt (closing c) i) (left-from c g i l e)
