@@ -1,26 +1,24 @@
 -- The replay of an accepted case is a lawful course, and what its records say is what the course's slots say.
-use mathlib.Core.Path.{_≡_, refl, ap, ap₂, sym, _∙_}
-use mathlib.Core.Bool.{Bool, true, false, _&&_, _||_, false≢true, true≢false}
+use mathlib.Core.Path.{_≡_, refl, ap, sym, _∙_}
+use mathlib.Core.Bool.{Bool, true, false, _&&_, _||_, false≢true}
 use mathlib.Core.List.{List}
-use Prim.Native.Nat.{ℕ, zero, suc, _+_, _-_, min, _≤_, _<_}
+use Prim.Native.Nat.{ℕ, zero, suc, _+_, _-_, _≤_, _<_}
 use native.Mathlib.Decide.{decLt}
 use native.Mathlib.Omega.{arith}
 use lib.Dec.{eqb}
 use borrow.Author.Tests.{eqb-true, eq-eqb, le-leb}
 use Rattle.rules.specs.declared.Fault.{Fault}
-use Rattle.rules.specs.Words.{firstIn}
 use Rattle.rules.specs.Case.{Case, under, period, deadline, releaseCount, timeOf, nameOf}
 use Rattle.rules.specs.Counts.{freeCount}
 use Rattle.rules.specs.Refusals.{orNext, procsFault, policyFault, caseFault, Accepted}
 use Rattle.rules.specs.Slot.{jobAt, isDemoted}
 use Rattle.rules.specs.Replay.{releasedIn, releasedAt, stateAt, slotsBy, finishBy, demotionBy}
-use Rattle.bridge.specs.Legal.{Legal, Good, next-clear, and-left, and-right}
+use Rattle.bridge.specs.Legal.{Legal, next-clear, and-left, and-right}
 use Rattle.bridge.specs.Firsts.{next-none}
 use Rattle.bridge.specs.Jobs.{Stand}
-use Rattle.bridge.specs.Stands.{Sole}
-use Rattle.bridge.specs.Records.{taskAt, good-at, sole}
+use Rattle.bridge.specs.Records.{taskAt, sole}
 use Rattle.theory.specs.Counting.{first-cong}
-use Rattle.theory.specs.Course.{Course, Lawful, finishedIn, demotedIn, finishIn, demotionIn, replayOf, replay-state, replay-attends, replay-finished, replay-demoted}
+use Rattle.theory.specs.Course.{Course, Lawful, finishIn, demotionIn, replayOf, replay-state, replay-attends, replay-finished, replay-demoted}
 use Rattle.theory.specs.Demoted.{Alone, at-deadline, none-demoted}
 use Rattle.theory.specs.Enough.{enough}
 

@@ -1,14 +1,13 @@
 -- Tests over a window of numbers: how their counts compare, and the first that holds. Nothing of scheduling.
 use mathlib.Core.Path.{_≡_, refl, ap, sym, _∙_}
-use mathlib.Core.Bool.{Bool, true, false, _&&_, and-false, false≢true, true≢false}
-use mathlib.Core.Logic.{_⊎_, inl, inr}
+use mathlib.Core.Bool.{Bool, true, false, _&&_, and-false}
 use Prim.Native.Nat.{ℕ, zero, suc, _+_, _*_, _-_, min, _≤_, _<_}
 use native.Mathlib.Nat.{add-zero, add-suc}
 use native.Mathlib.Decide.{decLt, decLe}
 use native.Mathlib.Omega.{arith}
 use lib.Dec.{eqb, ltb, leb}
-use borrow.Author.Tests.{eqb-true, ltb-true, eq-eqb, le-leb, lt-leb, lt-ltb, le-ltb}
-use Rattle.rules.specs.Words.{pick, bit, sum, countIn, orElse, firstIn}
+use borrow.Author.Tests.{eqb-true, eq-eqb, le-leb, lt-leb, lt-ltb, le-ltb}
+use Rattle.rules.specs.Words.{bit, sum, countIn, orElse, firstIn}
 use Rattle.bridge.specs.Legal.{and-left, and-right}
 use Rattle.bridge.specs.Sums.{bit-le, sum-mono, sum-cong, sum-add, sum-mul, sum-const}
 

@@ -1,22 +1,21 @@
 -- A course: slots in which some set of tasks is worked, chosen by anyone. The replay is the course whose sets are those of step 5; a
 -- log of another scheduler is one too. Document 01's steps 1 to 4 are taken as they are, so the states are not a second model.
-use mathlib.Core.Path.{_≡_, refl, ap, ap₂, sym, _∙_}
+use mathlib.Core.Path.{_≡_, refl, ap, sym, _∙_}
 use mathlib.Core.Bool.{Bool, true, false, _&&_, _||_}
 use Prim.Native.Nat.{ℕ, zero, suc, _+_, _≤_, _<_}
 use native.Mathlib.Omega.{arith}
-use lib.Dec.{leb}
 use lib.ListN.{getD}
 use borrow.Author.Tests.{leb-true}
 use Rattle.rules.specs.declared.Job.{Job}
 use Rattle.rules.specs.declared.Job.the-variants.{Idle}
 use Rattle.rules.specs.declared.Task.{Task}
 use Rattle.rules.specs.declared.Run.{Run}
-use Rattle.rules.specs.Words.{pick, bit, sum, countIn, firstIn, tab}
+use Rattle.rules.specs.Words.{pick, countIn, firstIn}
 use Rattle.rules.specs.Case.{Case, taskCount, period, execution, deadline}
-use Rattle.rules.specs.Slot.{Setup, TaskSet, noTask, jobAt, isPresent, isDemoted, leftOf, present, isCf, isDemotedNow, readied, demoted, lowered, contentionFree, jobsNow, opened, chosen, worked, workedJob, workedTask, after, ran, finished, demotedNow, lastUnit}
+use Rattle.rules.specs.Slot.{Setup, TaskSet, noTask, jobAt, isPresent, isDemoted, leftOf, present, isCf, isDemotedNow, readied, demoted, contentionFree, jobsNow, opened, chosen, worked, workedJob, workedTask, after, ran, finished, demotedNow, lastUnit}
 use Rattle.rules.specs.Replay.{setupIn, releasedAt, fresh, idleTask, stateFrom, stateAt, ranAt, finishedAt, demotedAt, contentionFreeAt}
 use Rattle.bridge.specs.Lists.{mapAt-at, tab-at, tab-long}
-use Rattle.bridge.specs.Steps.{Full, readied-full, opened-full, worked-full, readied-at, demoted-at, opened-at, readiedJob, demotedJob, openedJob, lowers}
+use Rattle.bridge.specs.Steps.{Full, readied-full, opened-full, worked-full, readied-at, demoted-at, opened-at, readiedJob, demotedJob, openedJob}
 use Rattle.bridge.specs.Jobs.{Kept, kept-demoted, kept-opened}
 use Rattle.bridge.specs.Stands.{state-next}
 use Rattle.bridge.specs.Legal.{Good}

@@ -1,26 +1,25 @@
 -- Demand 3, proved of the definitions: what document 01's steps promise of every accepted case and of every job whose deadline is not
 -- after the end. The statements are about the slots and records of the replay itself; parts 1 and 2 stand first for any course.
-use mathlib.Core.Path.{_≡_, refl, ap, ap₂, sym, _∙_}
-use mathlib.Core.Bool.{Bool, true, false, false≢true, true≢false}
-use mathlib.Core.Logic.{_⊎_, inl, inr}
-use Prim.Native.Nat.{ℕ, zero, suc, _+_, _≤_, _<_}
+use mathlib.Core.Path.{_≡_, refl, ap, sym, _∙_}
+use mathlib.Core.Bool.{true, false≢true, true≢false}
+use mathlib.Core.Logic.{inl, inr}
+use Prim.Native.Nat.{ℕ, _+_, _≤_, _<_}
 use native.Mathlib.Omega.{arith}
 use lib.Dec.{leb}
-use borrow.Author.Tests.{le-leb, eq-eqb}
+use borrow.Author.Tests.{eq-eqb}
 use Rattle.rules.specs.declared.Job.{Job}
 use Rattle.rules.specs.declared.Job.the-variants.{Idle, Normal, Demoted}
-use Rattle.rules.specs.Words.{sum, countIn}
+use Rattle.rules.specs.Words.{countIn}
 use Rattle.rules.specs.Case.{Case, under, deadline, releaseCount, timeOf}
 use Rattle.rules.specs.Counts.{count, freeCount}
 use Rattle.rules.specs.Refusals.{Accepted}
-use Rattle.rules.specs.Slot.{jobAt, isPresent, isDemoted, isCf}
-use Rattle.rules.specs.Replay.{setupIn, stateAt, contentionFreeAt, finishBy, demotionBy, verdictBy, verdictOf, recordBy}
-use Rattle.bridge.specs.Jobs.{Live, Stand}
+use Rattle.rules.specs.Slot.{jobAt, isPresent, isDemoted}
+use Rattle.rules.specs.Replay.{stateAt, contentionFreeAt, finishBy, demotionBy, verdictBy, verdictOf, recordBy}
+use Rattle.bridge.specs.Jobs.{Stand}
 use Rattle.bridge.specs.Legal.{Legal, legal}
-use Rattle.bridge.specs.Stands.{Sole}
 use Rattle.bridge.specs.Records.{taskAt, sole}
 use Rattle.theory.specs.Counting.{count-cong, first-in}
-use Rattle.theory.specs.Course.{Course, Lawful, Attends, stateIn, contentionFreeIn, finishedIn, finishIn, demotionIn, replayOf, replay-state, replay-free, replay-attends}
+use Rattle.theory.specs.Course.{Course, Lawful, Attends, contentionFreeIn, finishedIn, finishIn, demotionIn, replayOf, replay-free, replay-attends}
 use Rattle.theory.specs.Enough.{enough}
 use Rattle.theory.specs.Demoted.{Alone, demoted-finishes}
 use Rattle.theory.specs.Dominance.{Dom, dominated}

@@ -1,21 +1,21 @@
 -- Part 2 of demand 3, for any course and any count: a demoted job finishes by its deadline where its free count is no more than the
 -- contention-free slots up to there.
-use mathlib.Core.Path.{_≡_, refl, ap, ap₂, sym, _∙_}
-use mathlib.Core.Bool.{Bool, true, false, _&&_, _||_, false≢true, true≢false}
-use mathlib.Core.Logic.{_⊎_, inl, inr}
+use mathlib.Core.Path.{_≡_, refl, _∙_}
+use mathlib.Core.Bool.{Bool, true, false, _&&_, false≢true}
+use mathlib.Core.Logic.{inl, inr}
 use Prim.Native.Nat.{ℕ, zero, suc, _+_, _-_, _≤_, _<_}
 use native.Mathlib.Nat.{add-zero, add-suc}
 use native.Mathlib.Omega.{arith}
-use lib.Dec.{eqb, ltb, leb}
+use lib.Dec.{eqb}
 use borrow.Author.Tests.{eqb-true, leb-false, ne-eqb}
 use Rattle.rules.specs.declared.Job.{Job}
 use Rattle.rules.specs.declared.Job.the-variants.{Idle, Normal, Demoted}
 use Rattle.rules.specs.Words.{pick, bit, sum, countIn, firstIn}
 use Rattle.rules.specs.Case.{execution, deadline}
-use Rattle.rules.specs.Slot.{jobAt, isPresent, isDemoted, dueOf, isMissed, isCf, loweredJob, lastUnit, workedJob}
+use Rattle.rules.specs.Slot.{jobAt, isPresent, isDemoted, dueOf, isCf, loweredJob, lastUnit, workedJob}
 use Rattle.bridge.specs.Steps.{openedJob, judgedJob}
-use Rattle.bridge.specs.Jobs.{Live, Stand, slot-stand, written}
-use Rattle.theory.specs.Course.{Course, Attends, stateIn, contentionFreeIn, demotedIn, finishedIn, finishIn, demotionIn, foundIn, openIn, next-in, kept-in, present-in, demoted-in, finished-in}
+use Rattle.bridge.specs.Jobs.{Stand, slot-stand, written}
+use Rattle.theory.specs.Course.{Course, Attends, stateIn, contentionFreeIn, demotedIn, finishedIn, finishIn, demotionIn, foundIn, openIn, next-in, present-in, demoted-in, finished-in}
 
 -- what a job of free count F is owed when s contention-free slots have been: a normal job still counts F less s; a demoted one has no
 -- more left than that

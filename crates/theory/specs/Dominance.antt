@@ -1,17 +1,15 @@
 -- Demand 3, part 3, the step law: each job that is normal under EDF-CF is there under EDF, with at least as much left.
-use mathlib.Core.Path.{_≡_, refl, ap, ap₂, sym, _∙_}
-use mathlib.Core.Bool.{Bool, true, false, _&&_, _||_, false≢true, true≢false}
-use mathlib.Core.Logic.{_⊎_, inl, inr}
-use Prim.Native.Nat.{ℕ, zero, suc, _+_, _-_, _≤_, _<_}
+use mathlib.Core.Path.{_≡_, refl, ap, _∙_}
+use mathlib.Core.Bool.{Bool, true, false, false≢true, true≢false}
+use Prim.Native.Nat.{ℕ, zero, suc, _-_, _≤_, _<_}
 use native.Mathlib.Omega.{arith}
-use lib.Dec.{eqb, ltb, leb}
-use borrow.Author.Tests.{leb-true, leb-false, lt-leb, lt-ltb, ltb-true}
+use lib.Dec.{eqb}
+use borrow.Author.Tests.{leb-false, lt-leb, lt-ltb, ltb-true}
 use Rattle.rules.specs.declared.Job.{Job}
 use Rattle.rules.specs.declared.Job.the-variants.{Idle, Normal, Demoted}
-use Rattle.rules.specs.declared.Run.{Run}
-use Rattle.rules.specs.Words.{pick, bit, sum, countIn}
+use Rattle.rules.specs.Words.{pick, countIn}
 use Rattle.rules.specs.Case.{Case, under}
-use Rattle.rules.specs.Slot.{jobAt, isPresent, isDemoted, leftOf, dueOf, isMissed, isCf, loweredJob, releasedJob, inTurn, jobBefore, comesBefore, rank, present, chosen, ran, opened, lastUnit, workedJob}
+use Rattle.rules.specs.Slot.{jobAt, isPresent, isDemoted, leftOf, dueOf, loweredJob, releasedJob, jobBefore, comesBefore, rank, present, chosen, ran, opened, lastUnit, workedJob}
 use Rattle.rules.specs.Replay.{setupIn, releasedAt, stateAt, ranAt}
 use Rattle.bridge.specs.Steps.{openedJob, judgedJob, lowers}
 use Rattle.bridge.specs.Stands.{readyAt, openAt, open-at, next-at}

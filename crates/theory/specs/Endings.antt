@@ -1,8 +1,8 @@
 -- How the job of a release ends, by the states: finished, removed by step 1 at its deadline, or left when step 1 of the end is done.
-use mathlib.Core.Path.{_≡_, refl, ap, ap₂, sym, _∙_}
-use mathlib.Core.Bool.{Bool, true, false, _&&_, false≢true, true≢false}
-use mathlib.Core.Logic.{_⊎_, inl, inr}
-use Prim.Native.Nat.{ℕ, zero, suc, _+_, _-_, min, _≤_, _<_}
+use mathlib.Core.Path.{_≡_, ap, sym, _∙_}
+use mathlib.Core.Bool.{true, false, false≢true}
+use mathlib.Core.Logic.{inl, inr}
+use Prim.Native.Nat.{ℕ, suc, _+_, _-_, min, _≤_, _<_}
 use native.Mathlib.Omega.{arith}
 use lib.Dec.{eqb, leb}
 use lib.ListN.{getD}
@@ -11,17 +11,16 @@ use Rattle.rules.specs.declared.Job.{Job}
 use Rattle.rules.specs.declared.Job.the-variants.{Idle}
 use Rattle.rules.specs.declared.Task.{Task}
 use Rattle.rules.specs.declared.Run.{Run}
-use Rattle.rules.specs.Words.{pick, firstIn}
-use Rattle.rules.specs.Case.{Case, deadline, releaseCount, timeOf, nameOf}
-use Rattle.rules.specs.Slot.{noTask, jobAt, isPresent, dueOf, present, isMissed, withJob, judgedTask, judged, missed}
+use Rattle.rules.specs.Case.{Case, deadline, releaseCount, timeOf}
+use Rattle.rules.specs.Slot.{noTask, jobAt, isPresent, dueOf, isMissed, withJob, judgedTask, judged, missed}
 use Rattle.rules.specs.Replay.{releasedAt, stateAt, closing, missedAt, slotsBy, finishBy, demotionBy, verdictOf}
 use Rattle.bridge.specs.Lists.{mapAt-at}
 use Rattle.bridge.specs.Steps.{Full, judgedJob}
-use Rattle.bridge.specs.Jobs.{Live, Stand}
-use Rattle.bridge.specs.Stands.{Sole, state-full, stands}
-use Rattle.bridge.specs.Legal.{Legal, Good, and-left, and-right}
-use Rattle.bridge.specs.Records.{taskAt, good-at, sole}
-use Rattle.theory.specs.Course.{replayOf, replay-state, stateIn, pick-job}
+use Rattle.bridge.specs.Jobs.{Stand}
+use Rattle.bridge.specs.Stands.{state-full, stands}
+use Rattle.bridge.specs.Legal.{Legal, and-left, and-right}
+use Rattle.bridge.specs.Records.{taskAt, sole}
+use Rattle.theory.specs.Course.{replayOf, replay-state, pick-job}
 use Rattle.theory.specs.Enough.{From, judged-from, state-from}
 use Rattle.theory.specs.Accept.{lawful, released-some, stand-due}
 use Rattle.theory.specs.Verdicts.{missed-says, open-says}

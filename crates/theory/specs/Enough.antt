@@ -1,26 +1,25 @@
 -- Part 1 of demand 3, for any course: a window of l slots has at least `count` contention-free ones, whatever is worked in them.
-use mathlib.Core.Path.{_≡_, refl, ap, ap₂, sym, _∙_}
-use mathlib.Core.Bool.{Bool, true, false, _&&_, _||_, false≢true, true≢false}
+use mathlib.Core.Path.{_≡_, refl, ap, sym, _∙_}
+use mathlib.Core.Bool.{Bool, true, false, false≢true, true≢false}
 use mathlib.Core.Logic.{_⊎_, inl, inr}
 use mathlib.Core.List.{List}
-use Prim.Native.Nat.{ℕ, zero, suc, _+_, _-_, _*_, _/_, _≤_, _<_}
+use Prim.Native.Nat.{ℕ, zero, suc, _+_, _-_, _/_, _≤_, _<_}
 use native.Mathlib.Nat.{le-div-iff-mul-le, eq-or-lt-of-le}
 use native.Mathlib.Omega.{arith}
-use lib.Dec.{eqb, ltb, leb}
+use lib.Dec.{ltb, leb}
 use borrow.Author.Tests.{eq-eqb}
 use Rattle.rules.specs.declared.Job.{Job}
 use Rattle.rules.specs.declared.Job.the-variants.{Idle, Normal, Demoted}
 use Rattle.rules.specs.Words.{pick, bit, sum, countIn}
 use Rattle.rules.specs.Case.{taskCount, period, deadline}
 use Rattle.rules.specs.Counts.{availability, availabilities, count}
-use Rattle.rules.specs.Slot.{jobAt, isPresent, dueOf, isMissed, contentionFree, jobsNow, workedJob, lastUnit}
-use Rattle.bridge.specs.Legal.{Good}
+use Rattle.rules.specs.Slot.{jobAt, isPresent, dueOf, isMissed, contentionFree, workedJob, lastUnit}
 use Rattle.bridge.specs.Steps.{judgedJob}
 use Rattle.bridge.specs.Sums.{sum-split, sum-mono, sum-const, sum-swap}
 use Rattle.theory.specs.Counting.{count-cong, count-mono, count-none, over-count, count-both}
 use Rattle.theory.specs.Window.{span-in, spanned, window}
 use Rattle.theory.specs.Release.{times, sporadic, in-times}
-use Rattle.theory.specs.Course.{Course, Lawful, stateIn, countedIn, contentionFreeIn, foundIn, openIn, course-first, next-in, kept-in, jobs-found}
+use Rattle.theory.specs.Course.{Course, Lawful, stateIn, contentionFreeIn, foundIn, openIn, course-first, next-in, kept-in, jobs-found}
 
 -- ---- a job that is there comes from a release whose deadline is ahead
 -- the job j of the task at i comes from a release before `late`, and its deadline is not before `early`

@@ -1,19 +1,19 @@
 -- Demand 3 is not empty: computed cases in which its promises are kept with nothing to spare, and in which none is made.
 use mathlib.Core.Path.{_≡_, refl, sym, _∙_}
-use mathlib.Core.Bool.{Bool, true, false, false≢true}
-use mathlib.Core.List.{List, [], _∷_}
+use mathlib.Core.Bool.{false, false≢true}
+use mathlib.Core.List.{[], _∷_}
 use Prim.Native.Nat.{ℕ, zero, suc}
 use native.Mathlib.Omega.{arith}
 use lib.Dec.{ltb}
 use borrow.Author.Tests.{lt-ltb}
 use Rattle.rules.specs.Words.{sum, countIn, firstIn, tab, mapFrom}
-use Rattle.rules.specs.Case.{Case, caseOf, under}
+use Rattle.rules.specs.Case.{Case, caseOf}
 use Rattle.rules.specs.Counts.{availability, availabilities, count, freeCount}
 use Rattle.rules.specs.Refusals.{orNext, firstOf, procsFault, policyFault, tableFault, taskFault, endFault, traceFault, inOrder, lastBefore, releaseFault, caseFault, Accepted}
 use Rattle.rules.specs.Slot.{present, judged, joined, demoted, jobsNow, contentionFree, lowered, opened, jobBefore, rank, chosen, worked, after, ran, finished, demotedNow}
-use Rattle.rules.specs.Replay.{setupIn, releasedIn, releasedAt, stateFrom, stateAt, ranAt, finishedAt, demotedAt, contentionFreeAt, slotsBy, finishBy, demotionBy, verdictBy, Record, recordOf, recordBy}
+use Rattle.rules.specs.Replay.{setupIn, releasedIn, releasedAt, stateFrom, stateAt, ranAt, finishedAt, demotedAt, contentionFreeAt, slotsBy, finishBy, demotionBy, verdictBy, recordOf, recordBy}
 use Rattle.bridge.specs.Legal.{legal}
-use Rattle.theory.specs.Course.{Course, Lawful, Attends, stateIn, contentionFreeIn, demotedIn, finishedIn, finishIn, demotionIn, replayOf}
+use Rattle.theory.specs.Course.{Course, Lawful, Attends, stateIn, contentionFreeIn, demotedIn, finishedIn, finishIn, demotionIn}
 use Rattle.theory.specs.Accept.{lawful}
 
 -- document 01's set A, m = 2: all three tasks released at 0

@@ -1,17 +1,17 @@
 -- Further laws of the definitions: how many run, the totals, where a finish lies, who runs before whom, what a record depends on, and
 -- what missed and open mean for the states.
-use mathlib.Core.Path.{_≡_, refl, ap, sym, _∙_}
-use mathlib.Core.Bool.{Bool, true, false}
+use mathlib.Core.Path.{_≡_, ap, _∙_}
+use mathlib.Core.Bool.{true, false}
 use mathlib.Core.Logic.{_↔_}
 use mathlib.Core.List.{List}
-use Prim.Native.Nat.{ℕ, zero, suc, _+_, _-_, min, _≤_, _<_}
+use Prim.Native.Nat.{ℕ, _+_, _-_, min, _≤_, _<_}
 use native.Mathlib.Omega.{arith}
 use Rattle.rules.specs.declared.Run.{Run}
-use Rattle.rules.specs.Words.{sum, countIn, firstIn}
+use Rattle.rules.specs.Words.{countIn}
 use Rattle.rules.specs.Limits.{maxTasks}
 use Rattle.rules.specs.Case.{Case, deadline, releaseCount, timeOf, nameOf}
 use Rattle.rules.specs.Refusals.{Accepted}
-use Rattle.rules.specs.Slot.{jobAt, isPresent, isDemoted, dueOf, present, readied, demoted, jobsNow, opened, chosen, ran}
+use Rattle.rules.specs.Slot.{jobAt, isDemoted, dueOf, present, readied, demoted, jobsNow, opened, ran}
 use Rattle.rules.specs.Replay.{setupIn, releasedAt, stateAt, closing, ranAt, finishedAt, missedAt, slotsBy, finishBy, verdictBy, recordBy, metJobs, missedJobs, openJobs}
 use Rattle.bridge.specs.Legal.{legal}
 use Rattle.bridge.specs.Records.{taskAt}

@@ -1,17 +1,17 @@
 -- The order of step 5: any two jobs that are there have one, so that exactly min(m, N) run; and in a contention-free slot all do.
-use mathlib.Core.Path.{_≡_, refl, ap, ap₂, sym, _∙_}
+use mathlib.Core.Path.{_≡_, refl, _∙_}
 use mathlib.Core.Bool.{Bool, true, false, _&&_, _||_, and-false, false≢true, true≢false}
 use mathlib.Core.Logic.{_⊎_, inl, inr}
-use Prim.Native.Nat.{ℕ, zero, suc, _+_, min, _≤_, _<_}
-use native.Mathlib.Nat.{le-refl, eq-or-lt-of-le}
+use Prim.Native.Nat.{ℕ, min, _≤_, _<_}
+use native.Mathlib.Nat.{le-refl}
 use native.Mathlib.Decide.{decLt}
 use native.Mathlib.Omega.{arith}
-use lib.Dec.{eqb, ltb, leb}
-use borrow.Author.Tests.{ltb-true, ltb-false, eqb-true, leb-true, eq-eqb, le-ltb, lt-ltb}
+use lib.Dec.{eqb, ltb}
+use borrow.Author.Tests.{ltb-true, eqb-true, eq-eqb, le-ltb, lt-ltb}
 use Rattle.rules.specs.declared.Job.{Job}
 use Rattle.rules.specs.declared.Job.the-variants.{Idle, Normal, Demoted}
 use Rattle.rules.specs.declared.Run.{Run}
-use Rattle.rules.specs.Words.{sum, bit, countIn}
+use Rattle.rules.specs.Words.{countIn}
 use Rattle.rules.specs.Slot.{Setup, jobAt, isPresent, isDemoted, kind, dueOf, inTurn, present, jobsNow, jobBefore, comesBefore, rank, chosen}
 use Rattle.bridge.specs.Legal.{and-left, and-right}
 use Rattle.theory.specs.Counting.{and-both, count-lt, ranked}

@@ -4,7 +4,6 @@ use mathlib.Core.Path.{_≡_, refl, ap, ap₂, sym, _∙_, fun-ext}
 use mathlib.Core.List.{List}
 use Prim.Native.Nat.{ℕ, zero, suc, _+_, _-_, min, _≤_, _<_}
 use native.Mathlib.Omega.{arith}
-use Rattle.rules.specs.Words.{firstIn}
 use Rattle.rules.specs.Case.{Case, caseOf, deadline}
 use Rattle.rules.specs.Slot.{TaskSet, after, finished, demotedNow}
 use Rattle.rules.specs.Replay.{setupIn, releasedAt, stateFrom, stateAt, finishedAt, demotedAt, slotsBy, finishBy, demotionBy, verdictBy, jobRecord}

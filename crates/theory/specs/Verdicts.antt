@@ -1,13 +1,12 @@
 -- Verdicts (document 01: met, finished; missed, unfinished at a deadline ≤ end; open, unfinished with a later one) and their totals.
-use mathlib.Core.Path.{_≡_, refl, ap, ap₂, sym, _∙_}
-use mathlib.Core.Bool.{Bool, true, false, false≢true, true≢false}
-use mathlib.Core.List.{List, [], _∷_}
-use Prim.Native.Nat.{ℕ, zero, suc, _+_, _-_, _≤_, _<_}
+use mathlib.Core.Path.{_≡_, refl}
+use mathlib.Core.Bool.{Bool, true, false}
+use Prim.Native.Nat.{ℕ, zero, suc, _+_, _-_, _<_}
 use native.Mathlib.Omega.{arith}
 use lib.Dec.{eqb, leb}
 use Rattle.rules.specs.Words.{bit, tab}
 use Rattle.rules.specs.Case.{Case, deadline, timeOf, nameOf}
-use Rattle.rules.specs.Replay.{Record, finishBy, verdictOf, verdictBy, recordBy, marked}
+use Rattle.rules.specs.Replay.{finishBy, verdictOf, verdictBy, recordBy, marked}
 
 pub met-by-finish : (f : ℕ) (come : Bool) → 0 < f → verdictOf f come ≡ 1
 met-by-finish zero come h = absurd (omega arith)

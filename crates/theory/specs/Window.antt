@@ -1,16 +1,15 @@
 -- Jobs released at least T apart, each there for at most D ≤ T slots, are there in at most `availability T D l` slots of a window of
 -- length l.
-use mathlib.Core.Path.{_≡_, refl, ap, sym, _∙_}
+use mathlib.Core.Path.{_≡_, refl, ap}
 use mathlib.Core.Bool.{Bool, true, false, _&&_, _||_, and-false, or-false}
 use mathlib.Core.List.{List, [], _∷_}
-use Prim.Native.Nat.{ℕ, zero, suc, _+_, _*_, _-_, min, max, _≤_, _<_}
-use native.Mathlib.Nat.{add-zero, add-suc}
+use Prim.Native.Nat.{ℕ, zero, suc, _+_, _-_, min, max, _≤_, _<_}
 use native.Mathlib.Decide.{decLt, decLe}
 use native.Mathlib.Omega.{arith}
 use lib.Dec.{leb, ltb}
 use borrow.Author.Tests.{le-leb, lt-leb, lt-ltb, le-ltb}
 use Rattle.rules.specs.Words.{sum, bit, countIn}
-use Rattle.bridge.specs.Sums.{bit-le, sum-split, sum-mono, sum-cong, sum-const, count-le}
+use Rattle.bridge.specs.Sums.{sum-split, sum-cong, sum-const}
 use Rattle.rules.specs.Counts.{availability}
 use Rattle.theory.specs.Avail.{avail-lip, avail-mono, avail-period, avail-min}
 
