@@ -32,9 +32,10 @@ use Rattle.theory.specs.Verdicts.{met-by-finish, finish-of-met}
 pub course-free-slots : (k : Course) → Lawful k → (a l : ℕ) → count (k .setup .procs) (k .setup .table) l ≤ countIn (contentionFreeIn k) a l
 course-free-slots k g a l = enough k g a l
 
--- 2 for a course and any count. The job of the task at i is given the free count F at its release at a, and nothing more of its task is
--- released before its deadline. If F is at most the number of contention-free slots from release to deadline, and every job that is
--- there in a contention-free slot is worked in it, then the job, once demoted, finishes by its deadline.
+-- 2 for a course, whatever the count. Step 2 of a gives the task at i a job with free count F, and nothing more of the task is released
+-- before the job's deadline. If F is at most the number of contention-free slots from release to deadline, and every job that is there in
+-- a contention-free slot is worked in it, then the job, once demoted, finishes by its deadline. How F comes about is not asked, nor what
+-- the other tasks release.
 pub course-demoted-finishes : (k : Course) (e i a F : ℕ) → Alone k i a F → k .setup .policy ≡ 1 → Attends k e → a + deadline (k .setup .table) i ≤ e
     → F ≤ countIn (contentionFreeIn k) a (deadline (k .setup .table) i) → 0 < demotionIn k i a
     → (a < finishIn k i a) × (finishIn k i a ≤ a + deadline (k .setup .table) i)
@@ -42,7 +43,7 @@ unfolding finishIn
 course-demoted-finishes k e i a F s cf att come enough d =
     first-in (λ t. finishedIn k t i) a (deadline (k .setup .table) i) (demoted-finishes k i a F s (eq-eqb (k .setup .policy) 1 cf) e att come enough d)
 
--- 2 for a course and document 01's count: with parts 1 and 2 together nothing is left to ask but that the releases are lawful
+-- 2 for a course with document 01's count: by part 1 that count is never too high where the releases are lawful
 pub course-demoted-meets : (k : Course) (e i a : ℕ) → Lawful k → k .setup .policy ≡ 1 → Attends k e → k .released a i ≡ true
     → a + deadline (k .setup .table) i ≤ e → 0 < demotionIn k i a → (a < finishIn k i a) × (finishIn k i a ≤ a + deadline (k .setup .table) i)
 unfolding freeCount
@@ -59,8 +60,8 @@ dueAt c j = timeOf (c .trace) j + deadline (c .table) (taskAt c j)
 abbrev pub Judged : Case → ℕ → Type 0
 Judged c j = (j < releaseCount (c .trace)) × (dueAt c j ≤ c .end)
 
--- 1. Of an accepted case, under either policy: of the slots from a job's release to its deadline, at least its task's free count are
--- contention-free.
+-- 1. Of an accepted case, under its policy, be it EDF or EDF-CF: of the slots from a job's release to its deadline, at least its task's
+-- free count are contention-free.
 pub free-slots : (c : Case) → Accepted c → (j : ℕ) → Judged c j
     → freeCount (c .procs) (c .table) (taskAt c j) ≤ countIn (contentionFreeAt c) (timeOf (c .trace) j) (deadline (c .table) (taskAt c j))
 unfolding freeCount

@@ -52,17 +52,17 @@ dom-opened calm a (Normal l f d) h = go calm (eqb f l)
     go false false = h
 
 -- ---- step 5: whoever comes before a normal job under EDF-CF comes before it under EDF
-before : (p₀ p₁ now : ℕ) (x y a b : Job) (j i : ℕ) → Dom x y → Dom a b → isPresent b ≡ true → isDemoted b ≡ false → jobBefore p₁ now y j b i ≡ true → jobBefore p₀ now x j a i ≡ true
+before : (now : ℕ) (x y a b : Job) (j i : ℕ) → Dom x y → Dom a b → isPresent b ≡ true → isDemoted b ≡ false → jobBefore 1 now y j b i ≡ true → jobBefore 0 now x j a i ≡ true
 unfolding jobBefore
-before p₀ p₁ now x y a Idle j i p q u v e = absurd (false≢true u)
-before p₀ p₁ now x y a (Demoted l d) j i p q u v e = absurd (true≢false v)
-before p₀ p₁ now x Idle a (Normal l f d) j i p q u v e = absurd (false≢true e)
-before p₀ p₁ now x (Demoted k z) a (Normal l f d) j i p q u v e = absurd (false≢true e)
-before p₀ p₁ now Idle (Normal k g z) a (Normal l f d) j i p q u v e = absurd (false≢true (p .0))
-before p₀ p₁ now (Demoted m w) (Normal k g z) a (Normal l f d) j i p q u v e = absurd (true≢false (p .1))
-before p₀ p₁ now (Normal m n w) (Normal k g z) Idle (Normal l f d) j i p q u v e = absurd (false≢true (q .0))
-before p₀ p₁ now (Normal m n w) (Normal k g z) (Demoted o r) (Normal l f d) j i p q u v e = absurd (true≢false (q .1))
-before p₀ p₁ now (Normal m n w) (Normal k g z) (Normal o r s) (Normal l f d) j i p q u v e = rw (p .2, q .2) e
+before now x y a Idle j i p q u v e = absurd (false≢true u)
+before now x y a (Demoted l d) j i p q u v e = absurd (true≢false v)
+before now x Idle a (Normal l f d) j i p q u v e = absurd (false≢true e)
+before now x (Demoted k z) a (Normal l f d) j i p q u v e = absurd (false≢true e)
+before now Idle (Normal k g z) a (Normal l f d) j i p q u v e = absurd (false≢true (p .0))
+before now (Demoted m w) (Normal k g z) a (Normal l f d) j i p q u v e = absurd (true≢false (p .1))
+before now (Normal m n w) (Normal k g z) Idle (Normal l f d) j i p q u v e = absurd (false≢true (q .0))
+before now (Normal m n w) (Normal k g z) (Demoted o r) (Normal l f d) j i p q u v e = absurd (true≢false (q .1))
+before now (Normal m n w) (Normal k g z) (Normal o r s) (Normal l f d) j i p q u v e = rw (p .2, q .2) e
 
 -- ---- step 6
 dom-worked : (ra rb : Bool) (a b : Job) → Dom a b → (isPresent b ≡ true → isDemoted b ≡ false → ra ≡ true → rb ≡ true)
@@ -118,7 +118,7 @@ module _ (c : Case) where
       let of = opened (setupIn F) t (releasedAt F t) (stateAt F t) in
       let fewer : countIn (λ j. comesBefore (setupIn F) t of j i) 0 32 ≤ countIn (λ j. comesBefore (setupIn E) t oe j i) 0 32 =
       count-mono (λ j. comesBefore (setupIn F) t of j i) (λ j. comesBefore (setupIn E) t oe j i) 0 32 (λ j x y b.
-      rw (open-at E j (omega arith) t, open-at E i l t) (before 0 1 t (openAt E t j) (openAt F t j) (openAt E t i) (openAt F t i) j i (h j (omega arith)) (h i l) p q
+      rw (open-at E j (omega arith) t, open-at E i l t) (before t (openAt E t j) (openAt F t j) (openAt E t i) (openAt F t i) j i (h j (omega arith)) (h i l) p q
       (rw (open-at F j (omega arith) t, open-at F i l t) at b)))
       in
       let k : countIn (λ j. comesBefore (setupIn E) t oe j i) 0 32 < c .procs = ltb-true _ _ (and-right (isPresent (jobAt oe i)) _ e) in

@@ -24,6 +24,10 @@ caseA policy end = caseOf 2 policy (10 ∷ 1 ∷ 4 ∷ 10 ∷ 1 ∷ 1 ∷ 10 ∷
 abbrev pub tight : ℕ → Case
 tight policy = caseOf 1 policy (4 ∷ 1 ∷ 4 ∷ 4 ∷ 3 ∷ 3 ∷ []) 4 (0 ∷ 1 ∷ 0 ∷ 2 ∷ [])
 
+-- m = 2, tasks (10, 2, 6), (10, 2, 3) and (10, 3, 7), all released at 0: task 1 runs in slot 0, where N = m + 1
+abbrev pub crowded : Case
+crowded = caseOf 2 1 (10 ∷ 2 ∷ 6 ∷ 10 ∷ 2 ∷ 3 ∷ 10 ∷ 3 ∷ 7 ∷ []) 10 (0 ∷ 1 ∷ 0 ∷ 2 ∷ 0 ∷ 3 ∷ [])
+
 -- the cases are accepted
 pub accepted-A : Accepted (caseA 1 10)
 unfolding Accepted caseFault orNext firstOf procsFault policyFault tableFault taskFault endFault traceFault inOrder lastBefore releaseFault
@@ -36,6 +40,10 @@ accepted-A-cut = refl
 pub accepted-tight : Accepted (tight 1)
 unfolding Accepted caseFault orNext firstOf procsFault policyFault tableFault taskFault endFault traceFault inOrder lastBefore releaseFault
 accepted-tight = refl
+
+pub accepted-crowded : Accepted crowded
+unfolding Accepted caseFault orNext firstOf procsFault policyFault tableFault taskFault endFault traceFault inOrder lastBefore releaseFault
+accepted-crowded = refl
 
 -- set A: task 3 is missed under EDF and met under EDF-CF; task 1 is demoted at 0 and met at 2, where EDF meets it at 1
 pub set-A : (recordBy (caseA 0 10) 10 2 ≡ recordOf 2 0 0) × (recordBy (caseA 1 10) 10 2 ≡ recordOf 1 5 0)
@@ -53,6 +61,14 @@ unfolding sum firstIn tab mapFrom availability availabilities count freeCount
     present judged joined demoted jobsNow contentionFree lowered opened jobBefore rank chosen worked after ran finished demotedNow
     releasedIn stateFrom stateAt ranAt finishedAt demotedAt contentionFreeAt slotsBy finishBy demotionBy verdictBy recordBy
 exactly-reached = (refl, refl, refl, refl)
+
+-- a job is demoted after its release, and meets: task 1 has free count 1 and execution 2, and having run in a slot with contention it has
+-- 1 left at time 1. A free count lowered in that slot would be 0 by then, and the job not demoted.
+pub demoted-later : (freeCount 2 (crowded .table) 0 ≡ 1) × (recordBy crowded 10 0 ≡ recordOf 1 3 2)
+unfolding sum firstIn tab mapFrom availability availabilities count freeCount
+    present judged joined demoted jobsNow contentionFree lowered opened jobBefore rank chosen worked after ran finished demotedNow
+    releasedIn stateFrom stateAt ranAt finishedAt demotedAt slotsBy finishBy demotionBy verdictBy recordBy
+demoted-later = (refl, refl)
 
 -- set A cut at time 1: task 1, whose deadline is 4, is met under EDF, and under EDF-CF demoted and open. Nothing is promised of a job
 -- whose deadline is after the end, and parts 2 and 3 would be false of it.
