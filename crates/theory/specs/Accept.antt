@@ -23,7 +23,7 @@ use Rattle.theory.specs.Demoted.{Alone, at-deadline, none-demoted}
 use Rattle.theory.specs.Enough.{enough}
 
 -- ---- in a lawful course a released job is its task's only one up to its deadline
-pub alone : (k : Course) → Lawful k → (i a : ℕ) → k .released a i ≡ true → Alone k i a (freeCount (k .setup .procs) (k .setup .table) i)
+pub alone : (k : Course) → Lawful k → (i a : ℕ) → k .released a i ≡ true → Alone k i a
 alone k g i a r =
     let h = g .named a i r in
     let m = g .good i h in
@@ -31,7 +31,7 @@ alone k g i a r =
       task = omega (arith, g .tasks-few);
       some = m .some;
       lasts = omega (arith, m .some, m .fits);
-      given = rw r;
+      released = r;
       alone = λ u p q. free u p q (k .released u i) refl;
     }
   where
@@ -75,7 +75,7 @@ module _ (c : Case) (g : Legal c) where
   }
 
   -- release j of the trace
-  pub alone-at : (j : ℕ) → j < releaseCount (c .trace) → Alone (replayOf c) (taskAt c j) (timeOf (c .trace) j) (freeCount (c .procs) (c .table) (taskAt c j))
+  pub alone-at : (j : ℕ) → j < releaseCount (c .trace) → Alone (replayOf c) (taskAt c j) (timeOf (c .trace) j)
   alone-at j h = alone (replayOf c) lawful (taskAt c j) (timeOf (c .trace) j) (sole c g j h .released)
 
 -- ---- an accepted case is accepted under either policy
@@ -118,12 +118,12 @@ module _ (c : Case) (g : Legal c) (j : ℕ) (h : j < releaseCount (c .trace)) (e
   pub stand-due : Stand (finishBy c i a e) (demotionBy c i a e) (a + deadline (c .table) i) (jobAt (stateAt c (a + deadline (c .table) i)) i)
   stand-due =
       rw (finish-same c i a e come, demotion-same c i a e come, ← (replay-state c (a + deadline (c .table) i)))
-      (at-deadline (replayOf c) i a (freeCount (c .procs) (c .table) i) (alone-at c g j h))
+      (at-deadline (replayOf c) i a (alone-at c g j h))
 
   -- under EDF-CF it is not there as a demoted one
   pub none-demoted-due : c .policy ≡ 1 → isDemoted (jobAt (stateAt c (a + deadline (c .table) i)) i) ≡ true → ⊥
   unfolding freeCount
   none-demoted-due cf =
       rw (← (replay-state c (a + deadline (c .table) i)))
-      (none-demoted (replayOf c) i a (freeCount (c .procs) (c .table) i) (alone-at c g j h) (eq-eqb (c .policy) 1 cf) e (replay-attends c e) come
+      (none-demoted (replayOf c) i a (alone-at c g j h) (eq-eqb (c .policy) 1 cf) e (replay-attends c e) come
       (enough (replayOf c) (lawful c g) a (deadline (c .table) i)))

@@ -1,7 +1,7 @@
 -- Demand 3, proved of the definitions: what document 01's steps promise of every accepted case and of every job whose deadline is not
 -- after the end. The statements are about the slots and records of the replay itself; parts 1 and 2 stand first for any course.
 use mathlib.Core.Path.{_≡_, refl, ap, sym, _∙_}
-use mathlib.Core.Bool.{true, false≢true, true≢false}
+use mathlib.Core.Bool.{Bool, true, false≢true, true≢false}
 use mathlib.Core.Logic.{inl, inr}
 use Prim.Native.Nat.{ℕ, _+_, _≤_, _<_}
 use native.Mathlib.Omega.{arith}
@@ -21,10 +21,20 @@ use Rattle.bridge.specs.Records.{taskAt, sole}
 use Rattle.theory.specs.Counting.{count-cong, first-in}
 use Rattle.theory.specs.Course.{Course, Lawful, Attends, contentionFreeIn, finishedIn, finishIn, demotionIn, replayOf, replay-free, replay-attends}
 use Rattle.theory.specs.Enough.{enough}
+use Rattle.theory.specs.Story.{story, Attended, low-finishes}
 use Rattle.theory.specs.Demoted.{Alone, demoted-finishes}
 use Rattle.theory.specs.Dominance.{Dom, dominated}
 use Rattle.theory.specs.Accept.{alone, lawful, accepted-under, finish-same, demotion-same, stand-due, none-demoted-due}
 use Rattle.theory.specs.Verdicts.{met-by-finish, finish-of-met}
+
+-- ---- one job
+
+-- 2 for one job with any free count. A job is released at a with execution C ≥ 1 and free count F, and its slots go by steps 3 to 6 of
+-- EDF-CF. If F is at most the number of contention-free slots among its first D, and it is worked in each of these that finds it there,
+-- then, once demoted, it is finished after D slots. How F comes about is not asked, nor what the other jobs do.
+pub any-count-finishes : (calm works : ℕ → Bool) (a C F due D : ℕ) → 1 ≤ C → Attended calm works a (Normal C F due) D → F ≤ countIn calm a D
+    → (n : ℕ) → n ≤ D → isDemoted (story calm works a (Normal C F due) n) ≡ true → story calm works a (Normal C F due) D ≡ Idle
+any-count-finishes calm works a C F due D some att enough n h low = low-finishes calm works a C F due D some att enough n h low
 
 -- ---- any course: slots in which any sets are worked
 
@@ -32,23 +42,22 @@ use Rattle.theory.specs.Verdicts.{met-by-finish, finish-of-met}
 pub course-free-slots : (k : Course) → Lawful k → (a l : ℕ) → count (k .setup .procs) (k .setup .table) l ≤ countIn (contentionFreeIn k) a l
 course-free-slots k g a l = enough k g a l
 
--- 2 for a course, whatever the count. Step 2 of a gives the task at i a job with free count F, and nothing more of the task is released
--- before the job's deadline. If F is at most the number of contention-free slots from release to deadline, and every job that is there in
--- a contention-free slot is worked in it, then the job, once demoted, finishes by its deadline. How F comes about is not asked, nor what
--- the other tasks release.
-pub course-demoted-finishes : (k : Course) (e i a F : ℕ) → Alone k i a F → k .setup .policy ≡ 1 → Attends k e → a + deadline (k .setup .table) i ≤ e
-    → F ≤ countIn (contentionFreeIn k) a (deadline (k .setup .table) i) → 0 < demotionIn k i a
+-- 2 for a course. A job of the task at i is released at a, and nothing more of the task before that job's deadline. If its free count is
+-- at most the number of contention-free slots from release to deadline, and every job that is there in a contention-free slot is worked
+-- in it, then the job, once demoted, finishes by its deadline. What the other tasks release is not asked.
+pub course-demoted-finishes : (k : Course) (e i a : ℕ) → Alone k i a → k .setup .policy ≡ 1 → Attends k e → a + deadline (k .setup .table) i ≤ e
+    → freeCount (k .setup .procs) (k .setup .table) i ≤ countIn (contentionFreeIn k) a (deadline (k .setup .table) i) → 0 < demotionIn k i a
     → (a < finishIn k i a) × (finishIn k i a ≤ a + deadline (k .setup .table) i)
 unfolding finishIn
-course-demoted-finishes k e i a F s cf att come enough d =
-    first-in (λ t. finishedIn k t i) a (deadline (k .setup .table) i) (demoted-finishes k i a F s (eq-eqb (k .setup .policy) 1 cf) e att come enough d)
+course-demoted-finishes k e i a s cf att come enough d =
+    first-in (λ t. finishedIn k t i) a (deadline (k .setup .table) i) (demoted-finishes k i a s (eq-eqb (k .setup .policy) 1 cf) e att come enough d)
 
--- 2 for a course with document 01's count: by part 1 that count is never too high where the releases are lawful
+-- 2 for a course with lawful releases: by part 1 document 01's count is never too high
 pub course-demoted-meets : (k : Course) (e i a : ℕ) → Lawful k → k .setup .policy ≡ 1 → Attends k e → k .released a i ≡ true
     → a + deadline (k .setup .table) i ≤ e → 0 < demotionIn k i a → (a < finishIn k i a) × (finishIn k i a ≤ a + deadline (k .setup .table) i)
 unfolding freeCount
 course-demoted-meets k e i a g cf att r come d =
-    course-demoted-finishes k e i a (freeCount (k .setup .procs) (k .setup .table) i) (alone k g i a r) cf att come (enough k g a (deadline (k .setup .table) i)) d
+    course-demoted-finishes k e i a (alone k g i a r) cf att come (course-free-slots k g a (deadline (k .setup .table) i)) d
 
 -- ---- the replay
 

@@ -1,78 +1,30 @@
--- Part 2 of demand 3, for any course and any count: a demoted job finishes by its deadline where its free count is no more than the
--- contention-free slots up to there.
-use mathlib.Core.Path.{_≡_, refl, _∙_}
+-- Part 2 of demand 3 for a course: how the job of a release stands from slot to slot, and that once demoted it finishes by its deadline
+-- where its free count is no more than the contention-free slots up to there.
+use mathlib.Core.Path.{_≡_, refl, ap, sym, _∙_}
 use mathlib.Core.Bool.{Bool, true, false, _&&_, false≢true}
 use mathlib.Core.Logic.{inl, inr}
 use Prim.Native.Nat.{ℕ, zero, suc, _+_, _-_, _≤_, _<_}
 use native.Mathlib.Nat.{add-zero, add-suc}
 use native.Mathlib.Omega.{arith}
 use lib.Dec.{eqb}
-use borrow.Author.Tests.{eqb-true, leb-false, ne-eqb}
+use borrow.Author.Tests.{ne-eqb}
 use Rattle.rules.specs.declared.Job.{Job}
 use Rattle.rules.specs.declared.Job.the-variants.{Idle, Normal, Demoted}
-use Rattle.rules.specs.Words.{pick, bit, sum, countIn, firstIn}
+use Rattle.rules.specs.Words.{pick, countIn, firstIn}
 use Rattle.rules.specs.Case.{execution, deadline}
-use Rattle.rules.specs.Slot.{jobAt, isPresent, isDemoted, dueOf, isCf, loweredJob, lastUnit, workedJob}
+use Rattle.rules.specs.Counts.{freeCount}
+use Rattle.rules.specs.Slot.{jobAt, isPresent, isDemoted, dueOf, isCf, releasedJob, workedJob}
 use Rattle.bridge.specs.Steps.{openedJob, judgedJob}
 use Rattle.bridge.specs.Jobs.{Stand, slot-stand, written}
 use Rattle.theory.specs.Course.{Course, Attends, stateIn, contentionFreeIn, demotedIn, finishedIn, finishIn, demotionIn, foundIn, openIn, next-in, present-in, demoted-in, finished-in}
+use Rattle.theory.specs.Story.{story, Attended, none-low}
 
--- what a job of free count F is owed when s contention-free slots have been: a normal job still counts F less s; a demoted one has no
--- more left than that
-abbrev pub Owed : ℕ → ℕ → Job → Type 0
-Owed F s Idle = Unit {0}
-Owed F s (Normal l f d) = (1 ≤ l) × (f ≡ F - s)
-Owed F s (Demoted l d) = (1 ≤ l) × (l ≤ F - s)
-
--- ---- one slot, for any job
-normal-works : (F s l f d : ℕ) → f ≡ F - s → Owed F s (workedJob (Normal l f d))
-normal-works F s l f d e = go (lastUnit l) refl
-  where
-    go : (b : Bool) → lastUnit l ≡ b → Owed F s (pick b Idle (Normal (l - 1) f d))
-    go true q = tt
-    go false q = (omega (arith, leb-false l 1 q), e)
-
-demoted-works : (F s l d : ℕ) → l ≤ suc (F - s) → Owed F s (workedJob (Demoted l d))
-demoted-works F s l d e = go (lastUnit l) refl
-  where
-    go : (b : Bool) → lastUnit l ≡ b → Owed F s (pick b Idle (Demoted (l - 1) d))
-    go true q = tt
-    go false q = (omega (arith, leb-false l 1 q), omega arith)
-
-owed-slot : (F s : ℕ) (calm runs : Bool) (j : Job) → (calm ≡ true → isPresent j ≡ true → runs ≡ true) → Owed F s j
-    → Owed F (s + bit calm) (pick runs (workedJob (openedJob true calm j)) (openedJob true calm j))
-owed-slot F s true true Idle h o = tt
-owed-slot F s true false Idle h o = tt
-owed-slot F s false true Idle h o = tt
-owed-slot F s false false Idle h o = tt
-owed-slot F s true false (Normal l f d) h o = absurd (false≢true (h refl refl))
-owed-slot F s true false (Demoted l d) h o = absurd (false≢true (h refl refl))
-owed-slot F s true true (Demoted l d) h o = demoted-works F (s + 1) l d (omega arith)
-owed-slot F s false true (Demoted l d) h o = let z : s + 0 ≡ s = omega arith in rw z (demoted-works F s l d (omega arith))
-owed-slot F s false false (Demoted l d) h o = let z : s + 0 ≡ s = omega arith in rw z o
-owed-slot F s true true (Normal l f d) h o = go (eqb f l) refl
-  where
-    go : (b : Bool) → eqb f l ≡ b → Owed F (s + 1) (workedJob (loweredJob (pick b (Demoted l d) (Normal l f d))))
-    go true q = demoted-works F (s + 1) l d (omega (arith, eqb-true f l q))
-    go false q = normal-works F (s + 1) l (f - 1) d (omega arith)
-owed-slot F s false true (Normal l f d) h o = let z : s + 0 ≡ s = omega arith in rw z (go (eqb f l) refl)
-  where
-    go : (b : Bool) → eqb f l ≡ b → Owed F s (workedJob (pick b (Demoted l d) (Normal l f d)))
-    go true q = demoted-works F s l d (omega (arith, eqb-true f l q))
-    go false q = normal-works F s l f d (o .1)
-owed-slot F s false false (Normal l f d) h o = let z : s + 0 ≡ s = omega arith in rw z (go (eqb f l) refl)
-  where
-    go : (b : Bool) → eqb f l ≡ b → Owed F s (pick b (Demoted l d) (Normal l f d))
-    go true q = (o .0, omega (arith, eqb-true f l q))
-    go false q = o
-
--- ---- the job of a release, slot by slot
--- step 2 of a gives the task at i a job with free count F, and nothing more of the task is released before the job's deadline
-pub record Alone (k : Course) (i a F : ℕ) : Type 0 where
+-- a job of the task at i is released at a, and nothing more of the task before that job's deadline
+pub record Alone (k : Course) (i a : ℕ) : Type 0 where
   pub task : i < 32
   pub some : 1 ≤ execution (k .setup .table) i
   pub lasts : 1 ≤ deadline (k .setup .table) i
-  pub given : foundIn k a i ≡ Normal (execution (k .setup .table) i) F (a + deadline (k .setup .table) i)
+  pub released : k .released a i ≡ true
   pub alone : (u : ℕ) → a < u → u < a + deadline (k .setup .table) i → k .released u i ≡ false
 
 -- step 1 leaves a job whose deadline is ahead
@@ -82,7 +34,7 @@ not-due f d due t j h (inl (e, v)) =
     rw (v .there, n)
 not-due f d due t j h (inr (p, e)) = rw e
 
-module _ (k : Course) (i a F : ℕ) (s : Alone k i a F) where
+module _ (k : Course) (i a : ℕ) (s : Alone k i a) where
   abbrev D : ℕ
   D = deadline (k .setup .table) i
 
@@ -115,7 +67,7 @@ module _ (k : Course) (i a F : ℕ) (s : Alone k i a F) where
 
   stand : (n : ℕ) → n < D → Stand (fin n) (dem n) (a + D) (foundIn k (a + n) i)
   unfolding firstIn
-  stand zero h = rw (add-zero a, s .given) (inl (refl, record { there = refl; its = refl; lowly = refl }))
+  stand zero h = rw (add-zero a, s .released) (inl (refl, record { there = refl; its = refl; lowly = refl }))
   stand (suc n) h =
       let v = stand-next n (stand n (omega arith)) in
       rw (add-suc a n, found-next n h v) v
@@ -129,40 +81,33 @@ module _ (k : Course) (i a F : ℕ) (s : Alone k i a F) where
       rw y at (rw z at (stand-next (D - 1) (stand (D - 1) (omega (arith, s .lasts)))))
 
   module _ (cf : isCf (k .setup) ≡ true) (e : ℕ) (attends : Attends k e) (come : a + D ≤ e) where
-    -- the contention-free slots of the first n
-    abbrev seen : ℕ → ℕ
-    seen n = countIn (contentionFreeIn k) a n
+    -- the job's own story
+    abbrev told : ℕ → Job
+    told n = story (contentionFreeIn k) (λ t. k .works t i) a (releasedJob (k .setup) a i) n
 
-    owed-next : (n : ℕ) → n < D → Owed F (seen n) (foundIn k (a + n) i) → Owed F (seen (suc n)) (jobAt (stateIn k (suc (a + n))) i)
-    unfolding sum
-    owed-next n h o =
-        let t = a + n in
-        let l = s .task in
-        let w = owed-slot F (seen n) (contentionFreeIn k t) (k .works t i) (foundIn k t i) (λ q p. attends t i (omega arith) l q (present-in k t i l ∙ p)) o in
-        rw (next-in k t i l, cf) w
+    -- what the slots find of the task, and leave of it, is what the story tells
+    left-told : (n : ℕ) → foundIn k (a + n) i ≡ told n → jobAt (stateIn k (suc (a + n))) i ≡ told (suc n)
+    unfolding story
+    left-told n h = next-in k (a + n) i (s .task) ∙ rw (cf, h)
 
-    owed : (n : ℕ) → n < D → Owed F (seen n) (foundIn k (a + n) i)
-    unfolding sum
-    owed zero h = rw (add-zero a, s .given) (s .some, omega arith)
-    owed (suc n) h =
-        let v = stand-next n (stand n (omega arith)) in
-        rw (add-suc a n, found-next n h v) (owed-next n (omega arith) (owed n (omega arith)))
+    found-told : (n : ℕ) → n < D → foundIn k (a + n) i ≡ told n
+    unfolding story
+    found-told zero h = rw (add-zero a, s .released)
+    found-told (suc n) h = rw (add-suc a n) (found-next n h (stand-next n (stand n (omega arith))) ∙ left-told n (found-told n (omega arith)))
 
-    owed-at-deadline : Owed F (seen D) (jobAt (stateIn k (a + D)) i)
-    owed-at-deadline =
+    due-told : jobAt (stateIn k (a + D)) i ≡ told D
+    due-told =
         let z : suc (a + (D - 1)) ≡ a + D = omega (arith, s .lasts) in
         let y : suc (D - 1) ≡ D = omega (arith, s .lasts) in
-        rw y at (rw z at (owed-next (D - 1) (omega (arith, s .lasts)) (owed (D - 1) (omega (arith, s .lasts)))))
+        rw y at (rw z at (left-told (D - 1) (found-told (D - 1) (omega (arith, s .lasts)))))
 
-    module _ (enough : F ≤ countIn (contentionFreeIn k) a (deadline (k .setup .table) i)) where
+    attended : Attended (contentionFreeIn k) (λ t. k .works t i) a (releasedJob (k .setup) a i) D
+    attended n h q p = attends (a + n) i (omega arith) (s .task) q (present-in k (a + n) i (s .task) ∙ ap isPresent (found-told n h) ∙ p)
+
+    module _ (enough : freeCount (k .setup .procs) (k .setup .table) i ≤ countIn (contentionFreeIn k) a (deadline (k .setup .table) i)) where
       -- at its deadline the job is not there as a demoted one
       pub none-demoted : isDemoted (jobAt (stateIn k (a + deadline (k .setup .table) i)) i) ≡ true → ⊥
-      none-demoted = go (jobAt (stateIn k (a + D)) i) owed-at-deadline
-        where
-          go : (j : Job) → Owed F (seen D) j → isDemoted j ≡ true → ⊥
-          go Idle o e = false≢true e
-          go (Normal l f d) o e = false≢true e
-          go (Demoted l d) o e = omega (arith, o .0, o .1)
+      none-demoted = rw due-told (none-low (contentionFreeIn k) (λ t. k .works t i) a (execution (k .setup .table) i) _ (a + D) D (s .some) attended enough)
 
       -- so it has finished if it was demoted
       pub demoted-finishes : 0 < demotionIn k i a → 0 < finishIn k i a

@@ -5,6 +5,7 @@ pub mod Window
 pub mod Release
 pub mod Course
 pub mod Enough
+pub mod Story
 pub mod Demoted
 pub mod Dominance
 pub mod Accept
