@@ -1,6 +1,6 @@
 -- Tests over a window of numbers: how their counts compare, and the first that holds. Nothing of scheduling.
 use mathlib.Core.Path.{_≡_, refl, ap, sym, _∙_}
-use mathlib.Core.Bool.{Bool, true, false, _&&_, and-false}
+use mathlib.Core.Bool.{Bool, true, false, _&&_, and-false, false≢true}
 use Prim.Native.Nat.{ℕ, zero, suc, _+_, _*_, _-_, min, _≤_, _<_}
 use native.Mathlib.Nat.{add-zero, add-suc}
 use native.Mathlib.Decide.{decLt, decLe}
@@ -17,6 +17,13 @@ and-both a b p q = rw (p, q)
 bit-mono : (a b : Bool) → (a ≡ true → b ≡ true) → bit a ≤ bit b
 bit-mono true b h = rw (h refl) (omega arith)
 bit-mono false b h = omega arith
+
+pub sum-head : (f : ℕ → ℕ) (a l : ℕ) → sum f a (suc l) ≡ f a + sum f (suc a) l
+unfolding sum
+sum-head f a zero = omega (arith, ap f (add-zero a))
+sum-head f a (suc l) =
+    let z : a + suc l ≡ suc a + l = omega arith in
+    omega (arith, sum-head f a l, ap f z)
 
 -- ---- two counts
 pub count-cong : (p q : ℕ → Bool) (a l : ℕ) → ((t : ℕ) → a ≤ t → t < a + l → p t ≡ q t) → countIn p a l ≡ countIn q a l
@@ -54,6 +61,10 @@ count-one p a (suc l) h = go (p (a + l)) refl (count-one p a l (λ i j x y. h i 
         other : (t : ℕ) → t < a + l → (b : Bool) → p t ≡ b → p t ≡ false
         other t y false q = q
         other t y true q = absurd (h t (a + l) y (omega arith) q e)
+
+-- a test that one passes, and no two
+pub count-only : (p : ℕ → Bool) (a l j : ℕ) → a ≤ j → j < a + l → p j ≡ true → ((i j : ℕ) → i < j → j < a + l → p i ≡ true → p j ≡ true → ⊥) → countIn p a l ≡ 1
+count-only p a l j x y e h = omega (arith, count-one p a l h, count-lt (λ t. false) p a l (λ t u v q. absurd (false≢true q)) j x y refl e)
 
 -- ---- Markov's inequality: the slots in which f is over m have at least m + 1 each of f's sum
 pub over-count : (f : ℕ → ℕ) (m a l : ℕ) → suc m * countIn (λ t. ltb m (f t)) a l ≤ sum f a l

@@ -1,6 +1,6 @@
 -- How the job of a release ends, by the states: finished, removed by step 1 at its deadline, or left when step 1 of the end is done.
-use mathlib.Core.Path.{_≡_, ap, sym, _∙_}
-use mathlib.Core.Bool.{true, false, false≢true}
+use mathlib.Core.Path.{_≡_, refl, ap, sym, _∙_}
+use mathlib.Core.Bool.{Bool, true, false, _&&_, false≢true}
 use mathlib.Core.Logic.{inl, inr}
 use Prim.Native.Nat.{ℕ, suc, _+_, _-_, min, _≤_, _<_}
 use native.Mathlib.Omega.{arith}
@@ -11,15 +11,18 @@ use Rattle.rules.specs.declared.Job.{Job}
 use Rattle.rules.specs.declared.Job.the-variants.{Idle}
 use Rattle.rules.specs.declared.Task.{Task}
 use Rattle.rules.specs.declared.Run.{Run}
-use Rattle.rules.specs.Case.{Case, deadline, releaseCount, timeOf}
-use Rattle.rules.specs.Slot.{noTask, jobAt, isPresent, dueOf, isMissed, withJob, judgedTask, judged, missed}
-use Rattle.rules.specs.Replay.{releasedAt, stateAt, closing, missedAt, slotsBy, finishBy, demotionBy, verdictOf}
+use Rattle.rules.specs.Words.{bit, sum, countIn}
+use Rattle.rules.specs.Case.{Case, deadline, releaseCount, timeOf, nameOf}
+use Rattle.rules.specs.Slot.{noTask, jobAt, isPresent, dueOf, present, jobsNow, isMissed, withJob, judgedTask, judged, missed}
+use Rattle.rules.specs.Replay.{releasedAt, stateAt, closing, missedAt, slotsBy, finishBy, demotionBy, verdictOf, verdictBy, recordBy}
+use Rattle.bridge.specs.Sums.{sum-cong, sum-swap}
 use Rattle.bridge.specs.Lists.{mapAt-at}
 use Rattle.bridge.specs.Steps.{Full, judgedJob}
 use Rattle.bridge.specs.Jobs.{Stand}
 use Rattle.bridge.specs.Stands.{state-full, stands}
 use Rattle.bridge.specs.Legal.{Legal, and-left, and-right}
-use Rattle.bridge.specs.Records.{taskAt, sole}
+use Rattle.bridge.specs.Records.{taskAt, good-at, sole}
+use Rattle.theory.specs.Counting.{and-both, count-none, count-only}
 use Rattle.theory.specs.Course.{replayOf, replay-state, pick-job}
 use Rattle.theory.specs.Enough.{From, judged-from, state-from}
 use Rattle.theory.specs.Accept.{lawful, released-some, stand-due}
@@ -137,3 +140,68 @@ module _ (c : Case) (g : Legal c) (i : ℕ) (l : i < 32) where
   pub left-release : isPresent (jobAt (closing c) i) ≡ true
       → (j : ℕ) × ((j < releaseCount (c .trace)) × (taskAt c j ≡ i) × (dueOf (jobAt (closing c) i) ≡ timeOf (c .trace) j + deadline (c .table) i))
   left-release e = place c g i l _ _ (jobAt (closing c) i) (left-from c g i l e)
+
+-- ---- the open records are as many as the jobs that are left
+module _ (c : Case) (g : Legal c) where
+  abbrev n : ℕ
+  n = releaseCount (c .trace)
+
+  -- release j is open
+  abbrev isOpen : ℕ → Bool
+  isOpen j = eqb (recordBy c (c .end) j .verdict) 3
+
+  -- release j is open and of the task at i
+  abbrev opens : ℕ → ℕ → Bool
+  opens i j = isOpen j && eqb (taskAt c j) i
+
+  left-of : (i j : ℕ) → j < n → opens i j ≡ true → (taskAt c j ≡ i) × (isPresent (jobAt (closing c) i) ≡ true) × (dueOf (jobAt (closing c) i) ≡ timeOf (c .trace) j + deadline (c .table) i)
+  unfolding recordBy verdictBy
+  left-of i j h e =
+      let z : taskAt c j ≡ i = eqb-true _ _ (and-right (isOpen j) _ e) in
+      let r = open-left c g j h (eqb-true _ _ (and-left (isOpen j) _ e)) in
+      (z, rw z at (r .0), rw z at (r .1))
+
+  -- no two releases of a task are open
+  one-open : (i j k : ℕ) → j < k → k < n → opens i j ≡ true → opens i k ≡ true → ⊥
+  one-open i j k h l x y =
+      let p = left-of i j (omega arith) x in
+      let q = left-of i k l y in
+      let m = good-at c g k l in
+      let same : nameOf (c .trace) j ≡ nameOf (c .trace) k = omega (arith, p .0, q .0, g .named j (omega arith), g .named k l) in
+      omega (arith, g .separate j k h l same, p .2, q .2, m .some, m .fits, m .within)
+
+  -- of the releases of a task one is open where its job is left, and none where it has none
+  task-opens : (i : ℕ) → i < 32 → countIn (opens i) 0 n ≡ bit (isPresent (jobAt (closing c) i))
+  unfolding recordBy verdictBy
+  task-opens i l = go (isPresent (jobAt (closing c) i)) refl
+    where
+      go : (b : Bool) → isPresent (jobAt (closing c) i) ≡ b → countIn (opens i) 0 n ≡ bit b
+      go false e = count-none (opens i) 0 n (λ j x y. shut j (omega arith) (opens i j) refl)
+        where
+          shut : (j : ℕ) → j < n → (b : Bool) → opens i j ≡ b → opens i j ≡ false
+          shut j h false q = q
+          shut j h true q = absurd (false≢true (sym e ∙ left-of i j h q .1))
+      go true e =
+          let r = left-release c g i l e in
+          let v = left-open c g (r .0) (r .1 .0) (rw (r .1 .1) e) (rw (r .1 .1) (r .1 .2)) in
+          count-only (opens i) 0 n (r .0) (omega arith) (omega (arith, r .1 .0)) (and-both (isOpen (r .0)) _ (eq-eqb _ 3 v) (eq-eqb _ i (r .1 .1)))
+          (λ j k x y. one-open i j k x (omega arith))
+
+  -- an open release is open of its own task alone
+  by-task : (j : ℕ) → j < n → bit (isOpen j) ≡ countIn (λ i. opens i j) 0 32
+  by-task j h = go (isOpen j) refl
+    where
+      go : (b : Bool) → isOpen j ≡ b → bit b ≡ countIn (λ i. opens i j) 0 32
+      go false e = sym (count-none (λ i. opens i j) 0 32 (λ i x y. rw e))
+      go true e =
+          sym (count-only (λ i. opens i j) 0 32 (taskAt c j) (omega arith) (omega (arith, g .named j h, g .tasks-few)) (and-both (isOpen j) _ e (eq-eqb (taskAt c j) _ refl))
+          (λ i k x y p q. apart i k x (eqb-true (taskAt c j) i (and-right (isOpen j) _ p)) (eqb-true (taskAt c j) k (and-right (isOpen j) _ q))))
+        where
+          apart : (i k : ℕ) → i < k → taskAt c j ≡ i → taskAt c j ≡ k → ⊥
+          apart i k x p q = omega arith
+
+  pub open-count : countIn (λ j. eqb (recordBy c (c .end) j .verdict) 3) 0 (releaseCount (c .trace)) ≡ jobsNow (closing c)
+  unfolding jobsNow present
+  open-count =
+      sum-cong _ _ 0 n (λ j x y. by-task j (omega arith)) ∙ sum-swap (λ i j. bit (opens i j)) 0 n 0 32 ∙
+      sum-cong _ _ 0 32 (λ i x y. task-opens i (omega arith))

@@ -18,9 +18,9 @@ use Rattle.bridge.specs.Records.{taskAt}
 use Rattle.theory.specs.Counting.{first-in}
 use Rattle.theory.specs.Order.{chosen-exactly, demoted-last}
 use Rattle.theory.specs.Course.{replayOf, replay-state, jobs-opened}
-use Rattle.theory.specs.Verdicts.{met-by-finish, finish-of-met, all-marked}
+use Rattle.theory.specs.Verdicts.{met-by-finish, finish-of-met, all-marked, marked-count}
 use Rattle.theory.specs.Past.{retraced, job-same}
-use Rattle.theory.specs.Endings.{missed-removed, removed-missed, open-left, left-open, removed-release, left-release}
+use Rattle.theory.specs.Endings.{missed-removed, removed-missed, open-left, left-open, removed-release, left-release, open-count}
 use Rattle.theory.specs.Demand3.{dueAt}
 
 -- the jobs of the slot at t that step 4 counts, and those that step 5 sees
@@ -104,3 +104,7 @@ unfolding present
 left-is-open c ok i l e =
     let r = left-release c (legal c ok) i l e in
     (r .0, (r .1 .0, r .1 .1, open-is-left c ok (r .0) (r .1 .0) .1 (rw (r .1 .1) e, rw (r .1 .1) (r .1 .2))))
+
+-- so the open total is the number of jobs then left
+pub open-total : (c : Case) → Accepted c → openJobs c ≡ jobsNow (closing c)
+open-total c ok = marked-count c (c .end) 3 0 (releaseCount (c .trace)) ∙ open-count c (legal c ok)

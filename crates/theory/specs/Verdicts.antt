@@ -4,9 +4,10 @@ use mathlib.Core.Bool.{Bool, true, false}
 use Prim.Native.Nat.{ℕ, zero, suc, _+_, _-_, _<_}
 use native.Mathlib.Omega.{arith}
 use lib.Dec.{eqb, leb}
-use Rattle.rules.specs.Words.{bit, tab}
+use Rattle.rules.specs.Words.{bit, sum, countIn, tab}
 use Rattle.rules.specs.Case.{Case, deadline, timeOf, nameOf}
 use Rattle.rules.specs.Replay.{finishBy, verdictOf, verdictBy, recordBy, marked}
+use Rattle.theory.specs.Counting.{sum-head}
 
 pub met-by-finish : (f : ℕ) (come : Bool) → 0 < f → verdictOf f come ≡ 1
 met-by-finish zero come h = absurd (omega arith)
@@ -40,3 +41,14 @@ all-marked c e k (suc n) =
     let i = nameOf (c .trace) k - 1 in
     let a = timeOf (c .trace) k in
     omega (arith, all-marked c e (suc k) n, one-mark (finishBy c i a e) (leb (a + deadline (c .table) i) e))
+
+marked-more : (c : Case) (e v k n : ℕ) → marked v (tab (recordBy c e) (suc k) n) ≡ countIn (λ j. eqb (recordBy c e j .verdict) v) (suc k) n
+    → marked v (tab (recordBy c e) k (suc n)) ≡ countIn (λ j. eqb (recordBy c e j .verdict) v) k (suc n)
+unfolding marked tab
+marked-more c e v k n h = omega (arith, h, sum-head (λ j. bit (eqb (recordBy c e j .verdict) v)) k n)
+
+-- a total is a count of releases
+pub marked-count : (c : Case) (e v k n : ℕ) → marked v (tab (recordBy c e) k n) ≡ countIn (λ j. eqb (recordBy c e j .verdict) v) k n
+unfolding marked tab sum
+marked-count c e v k zero = refl
+marked-count c e v k (suc n) = marked-more c e v k n (marked-count c e v (suc k) n)
