@@ -1,0 +1,129 @@
+-- The replay of an accepted case is a lawful course, and what its records say is what the course's slots say.
+use mathlib.Core.Path.{_≡_, refl, ap, sym, _∙_}
+use mathlib.Core.Bool.{Bool, true, false, _&&_, _||_, false≢true}
+use mathlib.Core.List.{List}
+use Prim.Native.Nat.{ℕ, zero, suc, _+_, _-_, _≤_, _<_}
+use native.Mathlib.Decide.{decLt}
+use native.Mathlib.Omega.{arith}
+use lib.Dec.{eqb}
+use borrow.Author.Tests.{eqb-true, eq-eqb, le-leb}
+use Rattle.rules.specs.declared.Fault.{Fault}
+use Rattle.rules.specs.Case.{Case, under, period, deadline, releaseCount, timeOf, nameOf}
+use Rattle.rules.specs.Counts.{freeCount}
+use Rattle.rules.specs.Refusals.{orNext, procsFault, policyFault, caseFault, Accepted}
+use Rattle.rules.specs.Slot.{jobAt, isDemoted}
+use Rattle.rules.specs.Replay.{releasedIn, releasedAt, stateAt, slotsBy, finishBy, demotionBy}
+use Rattle.bridge.specs.Legal.{Legal, next-clear, and-left, and-right}
+use Rattle.bridge.specs.Firsts.{next-none}
+use Rattle.bridge.specs.Jobs.{Stand}
+use Rattle.bridge.specs.Records.{taskAt, sole}
+use Rattle.theory.specs.Counting.{first-cong}
+use Rattle.theory.specs.Course.{Course, Lawful, finishIn, demotionIn, replayOf, replay-state, replay-attends, replay-finished, replay-demoted}
+use Rattle.theory.specs.Demoted.{Alone, at-deadline, none-demoted}
+use Rattle.theory.specs.Enough.{enough}
+
+-- ---- in a lawful course a released job is its task's only one up to its deadline
+pub alone : (k : Course) → Lawful k → (i a : ℕ) → k .released a i ≡ true → Alone k i a
+alone k g i a r =
+    let h = g .named a i r in
+    let m = g .good i h in
+    record {
+      task = omega (arith, g .tasks-few);
+      some = m .some;
+      lasts = omega (arith, m .some, m .fits);
+      released = r;
+      alone = λ u p q. free u p q (k .released u i) refl;
+    }
+  where
+    free : (u : ℕ) → a < u → u < a + deadline (k .setup .table) i → (b : Bool) → k .released u i ≡ b → k .released u i ≡ false
+    free u p q false e = e
+    free u p q true e = absurd (omega (arith, g .separate i a u r e p, g .good i (g .named a i r) .within))
+
+-- ---- a release of the set is one of the trace
+pub released-some : (rs : List ℕ) (n t i : ℕ) → releasedIn rs n t i ≡ true → (j : ℕ) × ((j < n) × (timeOf rs j ≡ t) × (nameOf rs j ≡ suc i))
+unfolding releasedIn
+released-some rs zero t i e = absurd (false≢true e)
+released-some rs (suc n) t i e = go (releasedIn rs n t i) refl (released-some rs n t i) e
+  where
+    go : (b : Bool) → releasedIn rs n t i ≡ b → (releasedIn rs n t i ≡ true → (j : ℕ) × ((j < n) × (timeOf rs j ≡ t) × (nameOf rs j ≡ suc i)))
+        → (b || (eqb (timeOf rs n) t && eqb (nameOf rs n) (suc i))) ≡ true → (j : ℕ) × ((j < suc n) × (timeOf rs j ≡ t) × (nameOf rs j ≡ suc i))
+    go true q ih z = let r = ih q in (r .0, (omega (arith, r .1 .0), r .1 .1, r .1 .2))
+    go false q ih z = (n, (omega arith, eqb-true _ _ (and-left (eqb (timeOf rs n) t) _ z), eqb-true _ _ (and-right (eqb (timeOf rs n) t) _ z)))
+
+module _ (c : Case) (g : Legal c) where
+  separate : (i u v : ℕ) → releasedAt c u i ≡ true → releasedAt c v i ≡ true → u < v → u + period (c .table) i ≤ v
+  separate i u v p q h =
+      let x = released-some (c .trace) (releaseCount (c .trace)) u i p in
+      let y = released-some (c .trace) (releaseCount (c .trace)) v i q in
+      go (x .0) (y .0) (x .1) (y .1) (decLt (x .0) (y .0))
+    where
+      go : (j k : ℕ) → (j < releaseCount (c .trace)) × (timeOf (c .trace) j ≡ u) × (nameOf (c .trace) j ≡ suc i)
+          → (k < releaseCount (c .trace)) × (timeOf (c .trace) k ≡ v) × (nameOf (c .trace) k ≡ suc i) → Dec (j < k) → u + period (c .table) i ≤ v
+      go j k x y (yes l) =
+          let z : nameOf (c .trace) k - 1 ≡ i = omega (arith, y .2) in
+          omega (arith, g .separate j k l (y .0) (x .2 ∙ sym (y .2)), x .1, y .1, ap (period (c .table)) z)
+      go j k x y (no l) = absurd (omega (arith, g .in-order k j (omega arith) (x .0), x .1, y .1))
+
+  pub lawful : Lawful (replayOf c)
+  lawful = record {
+    tasks-few = g .tasks-few;
+    good = g .good;
+    named = λ t i e.
+        let r = released-some (c .trace) (releaseCount (c .trace)) t i e in
+        omega (arith, g .named (r .0) (r .1 .0), r .1 .2);
+    separate = separate;
+  }
+
+  -- release j of the trace
+  pub alone-at : (j : ℕ) → j < releaseCount (c .trace) → Alone (replayOf c) (taskAt c j) (timeOf (c .trace) j)
+  alone-at j h = alone (replayOf c) lawful (taskAt c j) (timeOf (c .trace) j) (sole c g j h .released)
+
+-- ---- an accepted case is accepted under either policy
+both-clear : (f g : Fault) → f .number ≡ 0 → g .number ≡ 0 → orNext f g .number ≡ 0
+both-clear f g p q = ap (λ (x : Fault). x .number) (next-none f g p) ∙ q
+
+policy-clear : (p : ℕ) → p ≤ 1 → policyFault p .number ≡ 0
+unfolding policyFault
+policy-clear p h = rw (le-leb p 1 h)
+
+pub accepted-under : (c : Case) → Accepted c → (p : ℕ) → p ≤ 1 → Accepted (under p c)
+unfolding Accepted caseFault
+accepted-under c ok p h =
+    let x = next-clear (procsFault (c .procs)) _ ok in
+    let y = next-clear (policyFault (c .policy)) _ (x .1) in
+    both-clear (procsFault (c .procs)) _ (x .0) (both-clear (policyFault p) _ (policy-clear p h) (y .1))
+
+-- ---- finish and demotion of a record are those of the course, once the deadline has come
+module _ (c : Case) (i a e : ℕ) (come : a + deadline (c .table) i ≤ e) where
+  all-slots : slotsBy c i a e ≡ deadline (c .table) i
+  unfolding slotsBy
+  all-slots = omega arith
+
+  pub finish-same : finishBy c i a e ≡ finishIn (replayOf c) i a
+  unfolding finishBy finishIn
+  finish-same = rw all-slots (first-cong _ _ a (deadline (c .table) i) (λ t x y. sym (replay-finished c t i)))
+
+  pub demotion-same : demotionBy c i a e ≡ demotionIn (replayOf c) i a
+  unfolding demotionBy demotionIn
+  demotion-same = rw all-slots (first-cong _ _ a (deadline (c .table) i) (λ t x y. sym (replay-demoted c t i)))
+
+-- ---- how the job of release j stands at its deadline, before step 1
+module _ (c : Case) (g : Legal c) (j : ℕ) (h : j < releaseCount (c .trace)) (e : ℕ) (come : timeOf (c .trace) j + deadline (c .table) (taskAt c j) ≤ e) where
+  abbrev i : ℕ
+  i = taskAt c j
+
+  abbrev a : ℕ
+  a = timeOf (c .trace) j
+
+  pub stand-due : Stand (finishBy c i a e) (demotionBy c i a e) (a + deadline (c .table) i) (jobAt (stateAt c (a + deadline (c .table) i)) i)
+  stand-due =
+      rw (finish-same c i a e come, demotion-same c i a e come, ← (replay-state c (a + deadline (c .table) i)))
+      (at-deadline (replayOf c) i a (alone-at c g j h))
+
+  -- under EDF-CF it is not there as a demoted one
+  pub none-demoted-due : c .policy ≡ 1 → isDemoted (jobAt (stateAt c (a + deadline (c .table) i)) i) ≡ true → ⊥
+  unfolding freeCount
+  none-demoted-due cf =
+      rw (← (replay-state c (a + deadline (c .table) i)))
+      (none-demoted (replayOf c) i a (alone-at c g j h) (eq-eqb (c .policy) 1 cf) e (replay-attends c e) come
+      (enough (replayOf c) (lawful c g) a (deadline (c .table) i)))

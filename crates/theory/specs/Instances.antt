@@ -1,0 +1,103 @@
+-- Demand 3 is not empty: computed cases in which its promises are kept with nothing to spare, and in which none is made.
+use mathlib.Core.Path.{_≡_, refl, sym, _∙_}
+use mathlib.Core.Bool.{false, false≢true}
+use mathlib.Core.List.{[], _∷_}
+use Prim.Native.Nat.{ℕ, zero, suc}
+use native.Mathlib.Omega.{arith}
+use lib.Dec.{ltb}
+use borrow.Author.Tests.{lt-ltb}
+use Rattle.rules.specs.Words.{sum, countIn, firstIn, tab, mapFrom}
+use Rattle.rules.specs.Case.{Case, caseOf}
+use Rattle.rules.specs.Counts.{availability, availabilities, count, freeCount}
+use Rattle.rules.specs.Refusals.{orNext, firstOf, procsFault, policyFault, tableFault, taskFault, endFault, traceFault, inOrder, lastBefore, releaseFault, caseFault, Accepted}
+use Rattle.rules.specs.Slot.{present, judged, joined, demoted, jobsNow, contentionFree, lowered, opened, jobBefore, rank, chosen, worked, after, ran, finished, demotedNow}
+use Rattle.rules.specs.Replay.{setupIn, releasedIn, releasedAt, stateFrom, stateAt, ranAt, finishedAt, demotedAt, contentionFreeAt, slotsBy, finishBy, demotionBy, verdictBy, recordOf, recordBy}
+use Rattle.bridge.specs.Legal.{legal}
+use Rattle.theory.specs.Course.{Course, Lawful, Attends, stateIn, contentionFreeIn, demotedIn, finishedIn, finishIn, demotionIn}
+use Rattle.theory.specs.Accept.{lawful}
+
+-- document 01's set A, m = 2: all three tasks released at 0
+abbrev pub caseA : ℕ → ℕ → Case
+caseA policy end = caseOf 2 policy (10 ∷ 1 ∷ 4 ∷ 10 ∷ 1 ∷ 1 ∷ 10 ∷ 5 ∷ 5 ∷ []) end (0 ∷ 1 ∷ 0 ∷ 2 ∷ 0 ∷ 3 ∷ [])
+
+-- m = 1, tasks (4, 1, 4) and (4, 3, 3), both released at 0: task 1 has one contention-free slot, the last before its deadline
+abbrev pub tight : ℕ → Case
+tight policy = caseOf 1 policy (4 ∷ 1 ∷ 4 ∷ 4 ∷ 3 ∷ 3 ∷ []) 4 (0 ∷ 1 ∷ 0 ∷ 2 ∷ [])
+
+-- m = 2, tasks (10, 2, 6), (10, 2, 3) and (10, 3, 7), all released at 0: task 1 runs in slot 0, where N = m + 1
+abbrev pub crowded : Case
+crowded = caseOf 2 1 (10 ∷ 2 ∷ 6 ∷ 10 ∷ 2 ∷ 3 ∷ 10 ∷ 3 ∷ 7 ∷ []) 10 (0 ∷ 1 ∷ 0 ∷ 2 ∷ 0 ∷ 3 ∷ [])
+
+-- the cases are accepted
+pub accepted-A : Accepted (caseA 1 10)
+unfolding Accepted caseFault orNext firstOf procsFault policyFault tableFault taskFault endFault traceFault inOrder lastBefore releaseFault
+accepted-A = refl
+
+pub accepted-A-cut : Accepted (caseA 1 1)
+unfolding Accepted caseFault orNext firstOf procsFault policyFault tableFault taskFault endFault traceFault inOrder lastBefore releaseFault
+accepted-A-cut = refl
+
+pub accepted-tight : Accepted (tight 1)
+unfolding Accepted caseFault orNext firstOf procsFault policyFault tableFault taskFault endFault traceFault inOrder lastBefore releaseFault
+accepted-tight = refl
+
+pub accepted-crowded : Accepted crowded
+unfolding Accepted caseFault orNext firstOf procsFault policyFault tableFault taskFault endFault traceFault inOrder lastBefore releaseFault
+accepted-crowded = refl
+
+-- set A: task 3 is missed under EDF and met under EDF-CF; task 1 is demoted at 0 and met at 2, where EDF meets it at 1
+pub set-A : (recordBy (caseA 0 10) 10 2 ≡ recordOf 2 0 0) × (recordBy (caseA 1 10) 10 2 ≡ recordOf 1 5 0)
+    × (recordBy (caseA 1 10) 10 0 ≡ recordOf 1 2 1) × (recordBy (caseA 0 10) 10 0 ≡ recordOf 1 1 0)
+unfolding sum firstIn tab mapFrom availability availabilities count freeCount
+    present judged joined demoted jobsNow contentionFree lowered opened jobBefore rank chosen worked after ran finished demotedNow
+    releasedIn stateFrom stateAt ranAt finishedAt demotedAt slotsBy finishBy demotionBy verdictBy recordBy
+set-A = (refl, refl, refl, refl)
+
+-- the free count is reached exactly: task 1's is 1, and of its 4 slots just 1 is contention-free, under either policy. The job is demoted
+-- at its release and finishes at its deadline.
+pub exactly-reached : (freeCount 1 (tight 1 .table) 0 ≡ 1) × (countIn (contentionFreeAt (tight 0)) 0 4 ≡ 1) × (countIn (contentionFreeAt (tight 1)) 0 4 ≡ 1)
+    × (recordBy (tight 1) 4 0 ≡ recordOf 1 4 1)
+unfolding sum firstIn tab mapFrom availability availabilities count freeCount
+    present judged joined demoted jobsNow contentionFree lowered opened jobBefore rank chosen worked after ran finished demotedNow
+    releasedIn stateFrom stateAt ranAt finishedAt demotedAt contentionFreeAt slotsBy finishBy demotionBy verdictBy recordBy
+exactly-reached = (refl, refl, refl, refl)
+
+-- a job is demoted after its release, and meets: task 1 has free count 1 and execution 2, and having run in a slot with contention it has
+-- 1 left at time 1. A free count lowered in that slot would be 0 by then, and the job not demoted.
+pub demoted-later : (freeCount 2 (crowded .table) 0 ≡ 1) × (recordBy crowded 10 0 ≡ recordOf 1 3 2)
+unfolding sum firstIn tab mapFrom availability availabilities count freeCount
+    present judged joined demoted jobsNow contentionFree lowered opened jobBefore rank chosen worked after ran finished demotedNow
+    releasedIn stateFrom stateAt ranAt finishedAt demotedAt slotsBy finishBy demotionBy verdictBy recordBy
+demoted-later = (refl, refl)
+
+-- set A cut at time 1: task 1, whose deadline is 4, is met under EDF, and under EDF-CF demoted and open. Nothing is promised of a job
+-- whose deadline is after the end, and parts 2 and 3 would be false of it.
+pub stays-open : (recordBy (caseA 0 1) 1 0 ≡ recordOf 1 1 0) × (recordBy (caseA 1 1) 1 0 ≡ recordOf 3 0 1)
+unfolding sum firstIn tab mapFrom availability availabilities count freeCount
+    present judged joined demoted jobsNow contentionFree lowered opened jobBefore rank chosen worked after ran finished demotedNow
+    releasedIn stateFrom stateAt ranAt finishedAt demotedAt slotsBy finishBy demotionBy verdictBy recordBy
+stays-open = (refl, refl)
+
+-- ---- a course that is no replay: set A with a scheduler that works nothing in slot 0, the only one with contention
+abbrev pub idler : Course
+idler = record { setup = setupIn (caseA 1 10); released = releasedAt (caseA 1 10); works = λ t i. ltb 0 t }
+
+pub idler-lawful : Lawful idler
+idler-lawful =
+    let g = lawful (caseA 1 10) (legal (caseA 1 10) accepted-A) in
+    record { tasks-few = g .tasks-few; good = g .good; named = g .named; separate = g .separate }
+
+idler-busy : contentionFreeIn idler 0 ≡ false
+unfolding sum tab mapFrom availability availabilities count freeCount present judged joined demoted jobsNow contentionFree releasedIn stateIn contentionFreeIn
+idler-busy = refl
+
+pub idler-attends : Attends idler 10
+idler-attends zero i h l f p = absurd (false≢true (sym idler-busy ∙ f))
+idler-attends (suc t) i h l f p = lt-ltb 0 (suc t) (omega arith)
+
+-- task 1 is demoted at 0 and finishes at 2 all the same; task 3, which is not demoted, does not finish
+pub idler-keeps : (demotionIn idler 0 0 ≡ 1) × (finishIn idler 0 0 ≡ 2) × (demotionIn idler 2 0 ≡ 0) × (finishIn idler 2 0 ≡ 0)
+unfolding sum firstIn tab mapFrom availability availabilities count freeCount
+    present judged joined demoted jobsNow contentionFree lowered opened worked demotedNow
+    releasedIn stateIn demotedIn finishedIn finishIn demotionIn
+idler-keeps = (refl, refl, refl, refl)

@@ -1,0 +1,17 @@
+pub mod Counting
+pub mod Order
+pub mod Avail
+pub mod Window
+pub mod Release
+pub mod Course
+pub mod Enough
+pub mod Story
+pub mod Demoted
+pub mod Dominance
+pub mod Accept
+pub mod Verdicts
+pub mod Demand3
+pub mod Instances
+pub mod Past
+pub mod Endings
+pub mod Laws
