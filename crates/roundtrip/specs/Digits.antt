@@ -27,7 +27,7 @@ worth-one : (v m : ℕ) → worth v ((48 + m) ∷ []) ≡ v * 10 + m
 unfolding worth
 worth-one v m = omega arith
 
-head-digit : (b : ℕ) (s : List ℕ) → allDigits (b ∷ s) ≡ true → (48 ≤ b) × (b ≤ 57) × (allDigits s ≡ true)
+pub head-digit : (b : ℕ) (s : List ℕ) → allDigits (b ∷ s) ≡ true → (48 ≤ b) × (b ≤ 57) × (allDigits s ≡ true)
 unfolding allDigits
 head-digit b s p =
     let q = and-left (isDigit b) (allDigits s) p in
