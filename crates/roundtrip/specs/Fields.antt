@@ -15,6 +15,11 @@ use Rattle.bridge.specs.Legal.{and-left, and-right}
 use Rattle.bridge.specs.Lists.{picked}
 use Rattle.roundtrip.specs.Digits.{head-digit, all-digits}
 
+-- what holds of each in a list
+unfoldable pub All : {A : Type 0} → (A → Type 0) → List A → Type 0
+All P [] = Unit
+All P (x ∷ xs) = P x × All P xs
+
 -- ---- texts that are the same
 pub same-self : (s : List ℕ) → same s s ≡ true
 unfolding same
@@ -97,10 +102,6 @@ unfoldable pub parted : List ℕ → List (List ℕ) → List ℕ
 parted f [] = f
 parted f (g ∷ gs) = f ++ (tabByte ∷ parted g gs)
 
-pub AllPlain : List (List ℕ) → Type 0
-AllPlain [] = Unit
-AllPlain (f ∷ fs) = Plain f × AllPlain fs
-
 -- a line is its fields so parted, and a newline
 pub line-parted : (f : List ℕ) (fs : List (List ℕ)) → lineText tabByte f fs ≡ parted f fs ++ (newlineByte ∷ [])
 unfolding lineText moreFields parted
@@ -112,8 +113,8 @@ unfolding has
 without-append x [] t p q = q
 without-append x (b ∷ s) t p q = let w = without-head x b s p in rw (w .0, without-append x s t (w .1) q)
 
-pub parted-no-newline : (f : List ℕ) (fs : List (List ℕ)) → Plain f → AllPlain fs → has newlineByte (parted f fs) ≡ false
-unfolding parted AllPlain has
+pub parted-no-newline : (f : List ℕ) (fs : List (List ℕ)) → Plain f → All Plain fs → has newlineByte (parted f fs) ≡ false
+unfolding parted All has
 parted-no-newline f [] p ps = p .no-newline
 parted-no-newline f (g ∷ gs) p ps = without-append newlineByte f _ (p .no-newline) (parted-no-newline g gs (ps .0) (ps .1))
 
