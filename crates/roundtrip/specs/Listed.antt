@@ -189,3 +189,19 @@ module _ (k : ℕ) (one : (c : Case) (l : Line) → Kind k l → withLine c l �
   unfolding withLines allListed All
   adding-all c [] a = adding-none k c
   adding-all c (l ∷ ls) a = ap (λ z. withLines z ls) (one c l (a .0)) ∙ adding-all (adding k c (listed l)) ls (a .1) ∙ adding-more k c (listed l) (allListed ls)
+
+withLines-append : (c : Case) (ls ms : List Line) → withLines c (ls ++ ms) ≡ withLines (withLines c ls) ms
+unfolding withLines
+withLines-append c [] ms = refl
+withLines-append c (l ∷ ls) ms = withLines-append (withLine c l) ls ms
+
+-- task lines, the end and release lines, from a case with processors and policy alone
+pub lines-taken : (m p : ℕ) (rows : List Line) (e : ℕ) (rels : List Line) → All (Kind 3) rows → All (Kind 5) rels
+    → withLines (caseOf m p [] 0 []) (rows ++ (End e ∷ rels)) ≡ caseOf m p (allListed rows) e (allListed rels)
+unfolding withLines withLine adding
+lines-taken m p rows e rels a b =
+    let c = caseOf m p [] 0 [] in
+    withLines-append c rows (End e ∷ rels)
+    ∙ ap (λ z. withLines (withLine z (End e)) rels) (adding-all 3 adding-row c rows a)
+    ∙ adding-all 5 adding-release (caseOf m p (allListed rows) e []) rels b
+    ∙ ap (λ ts. caseOf m p ts e (allListed rels)) (append-nil (allListed rows))
