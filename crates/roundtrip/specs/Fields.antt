@@ -49,6 +49,12 @@ unfolding past
 past-seam x [] t h = rw (eq-eqb x x refl)
 past-seam x (b ∷ s) t h = let w = without-head x b s h in rw (w .0, past-seam x s t (w .1))
 
+-- and where there is none, all of it is before
+pub upTo-none : (x : ℕ) (s : List ℕ) → has x s ≡ false → upTo x s ≡ s
+unfolding upTo
+upTo-none x [] h = refl
+upTo-none x (b ∷ s) h = let w = without-head x b s h in rw (w .0, upTo-none x s (w .1))
+
 pub has-seam : (x : ℕ) (s t : List ℕ) → has x (s ++ (x ∷ t)) ≡ true
 unfolding has
 has-seam x [] t = rw (eq-eqb x x refl)

@@ -18,7 +18,7 @@ use Rattle.rules.specs.Reader.{withNumber, oneNumber, twoNumbers, threeNumbers,
 use Rattle.rules.specs.Writer.{lineText}
 use Rattle.bridge.specs.Lists.{picked}
 use Rattle.roundtrip.specs.Digits.{digits-some, written-reads, reads-written}
-use Rattle.roundtrip.specs.Fields.{same-true, upTo-seam, past-seam, Plain, digits-plain, parted, All, line-parted, parted-cons}
+use Rattle.roundtrip.specs.Fields.{same-true, upTo-seam, upTo-none, past-seam, Plain, digits-plain, parted, All, line-parted, parted-cons}
 
 -- ---- what is written of what a line says
 -- its word
@@ -91,9 +91,10 @@ Below b (Release t n) = (t < b) × (n < b)
 number-handed : (v : ℕ) (next : ℕ → Line) → v < 10 ^ 9 → withNumber (numberIn (digitsOf v)) next ≡ next v
 number-handed v next h = rw (written-reads v h)
 
-field-first : (f g : List ℕ) (gs : List (List ℕ)) → Plain f → fieldOf (parted f (g ∷ gs)) ≡ f
+field-first : (f : List ℕ) (fs : List (List ℕ)) → Plain f → fieldOf (parted f fs) ≡ f
 unfolding fieldOf parted
-field-first f g gs p = upTo-seam tabByte f (parted g gs) (p .no-tab)
+field-first f [] p = upTo-none tabByte f (p .no-tab)
+field-first f (g ∷ gs) p = upTo-seam tabByte f (parted g gs) (p .no-tab)
 
 field-others : (f g : List ℕ) (gs : List (List ℕ)) → Plain f → afterField (parted f (g ∷ gs)) ≡ parted g gs
 unfolding afterField parted
@@ -106,13 +107,13 @@ one-written a say h = number-handed a say h
 two-written : (a b : ℕ) (say : ℕ → ℕ → Line) → a < 10 ^ 9 → b < 10 ^ 9 → twoNumbers (parted (digitsOf a) (digitsOf b ∷ [])) say ≡ say a b
 unfolding twoNumbers parted
 two-written a b say h k =
-    rw (field-first (digitsOf a) (digitsOf b) [] (digits-plain a), field-others (digitsOf a) (digitsOf b) [] (digits-plain a))
+    rw (field-first (digitsOf a) (digitsOf b ∷ []) (digits-plain a), field-others (digitsOf a) (digitsOf b) [] (digits-plain a))
     (number-handed a (λ v. oneNumber (digitsOf b) (say v)) h ∙ one-written b (say a) k)
 
 three-written : (a b d : ℕ) (say : ℕ → ℕ → ℕ → Line) → a < 10 ^ 9 → b < 10 ^ 9 → d < 10 ^ 9 → threeNumbers (parted (digitsOf a) (digitsOf b ∷ digitsOf d ∷ [])) say ≡ say a b d
 unfolding threeNumbers
 three-written a b d say h k l =
-    rw (field-first (digitsOf a) (digitsOf b) (digitsOf d ∷ []) (digits-plain a), field-others (digitsOf a) (digitsOf b) (digitsOf d ∷ []) (digits-plain a))
+    rw (field-first (digitsOf a) (digitsOf b ∷ digitsOf d ∷ []) (digits-plain a), field-others (digitsOf a) (digitsOf b) (digitsOf d ∷ []) (digits-plain a))
     (number-handed a (λ v. twoNumbers (parted (digitsOf b) (digitsOf d ∷ [])) (say v)) h ∙ two-written b d (say a) k l)
 
 name-written : (p : ℕ) → p ≤ 1 → policyIn (policyName p) ≡ Policy p
@@ -129,10 +130,15 @@ word-kind (Row T C D) = refl
 word-kind (End e) = refl
 word-kind (Release t n) = refl
 
+-- the first field of a line that is written is its word
+pub body-kind : (l : Line) → wordKind (fieldOf (lineBody l)) ≡ kindOf l
+unfolding lineBody
+body-kind l = ap wordKind (field-first (wordOf l) (fieldsIn l) (word-plain l)) ∙ word-kind l
+
 -- a word and fields: the word's kind says what the fields say
 parted-says : (l : Line) (f : List ℕ) (fs : List (List ℕ)) → lineSays (parted (wordOf l) (f ∷ fs)) ≡ fieldsSay (kindOf l) (parted f fs)
 unfolding lineSays
-parted-says l f fs = rw (field-first (wordOf l) f fs (word-plain l), field-others (wordOf l) f fs (word-plain l), word-kind l)
+parted-says l f fs = rw (field-first (wordOf l) (f ∷ fs) (word-plain l), field-others (wordOf l) f fs (word-plain l), word-kind l)
 
 -- what is written of what a line says, its newline apart, says that
 pub written-says : (b : ℕ) (l : Line) → b ≤ 10 ^ 9 → Below b l → lineSays (lineBody l) ≡ l

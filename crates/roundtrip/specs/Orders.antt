@@ -132,6 +132,9 @@ pub record Body (ls : List Line) : Type 0 where
   pub tail : Tail others
   pub whole : ls ≡ task ∷ others
 
+pub body-tail : (ls : List Line) → Body ls → Tail ls
+body-tail ls b = rw (b .whole) (tail-more (b .task) (b .others) (b .is-task) (b .tail))
+
 body-of : (n : ℕ) (l : Line) (ls : List Line) → Kind 3 l → linesFault (kindOf l) (suc n) ls .number ≡ 0 → Body (l ∷ ls)
 body-of n l ls e h = record { task = l; others = ls; is-task = e; tail = tail-of (suc n) ls (rw e at h); whole = refl }
 
