@@ -86,7 +86,7 @@ body-no-newline : (l : Line) → has newlineByte (lineBody l) ≡ false
 unfolding lineBody
 body-no-newline l = parted-no-newline (wordOf l) (fieldsIn l) (word-plain l) (fields-plain l)
 
-textOf-cons : (l : Line) (ls : List Line) → textOf (l ∷ ls) ≡ lineBody l ++ (newlineByte ∷ textOf ls)
+pub textOf-cons : (l : Line) (ls : List Line) → textOf (l ∷ ls) ≡ lineBody l ++ (newlineByte ∷ textOf ls)
 unfolding textOf
 textOf-cons l ls = ap (λ (t : List ℕ). t ++ textOf ls) (bytes-body l) ∙ append-assoc (lineBody l) (newlineByte ∷ []) (textOf ls)
 

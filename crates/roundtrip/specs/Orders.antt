@@ -12,7 +12,7 @@ use Rattle.rules.specs.declared.Fault.{Fault}
 use Rattle.rules.specs.declared.Line.{Line}
 use Rattle.rules.specs.declared.Line.the-variants.{Bad, Procs, Policy, Row, End, Release}
 use Rattle.rules.specs.Refusals.{noFault, unless, orNext, first}
-use Rattle.rules.specs.Reader.{kindOf, mayFollow, mayStop, linesFault, policyWhenAbsent}
+use Rattle.rules.specs.Reader.{kindOf, mayFollow, mayStop, linesFault}
 use Rattle.bridge.specs.Legal.{unless-clear, next-clear}
 use Rattle.roundtrip.specs.Fields.{All}
 use Rattle.roundtrip.specs.LineTrip.{Said}
@@ -147,13 +147,12 @@ pub body-clear : (ls : List Line) → Body ls → (n : ℕ) → linesFault 2 n l
 unfolding mayFollow
 body-clear ls b n = rw (b .whole) (fault-next 2 n 2 (b .task) (b .others) (b .is-task) refl (tail-clear (b .others) (b .tail) (suc n)))
 
--- ---- all lines of a text: `body` is what stands after processors and policy, the latter perhaps not given
+-- ---- all lines of a text: the body stands after processors and a policy, or after processors alone
 pub record Ordered (ls : List Line) : Type 0 where
   pub procs : ℕ
-  pub policy : ℕ
   pub after : List Line
   pub body : Body after
-  pub whole : (ls ≡ Procs procs ∷ Policy policy ∷ after) ⊎ ((ls ≡ Procs procs ∷ after) × (policy ≡ policyWhenAbsent))
+  pub whole : ((p : ℕ) × (ls ≡ Procs procs ∷ Policy p ∷ after)) ⊎ (ls ≡ Procs procs ∷ after)
 
 ordered-after-procs : (n m : ℕ) (ls : List Line) → linesFault 1 n ls .number ≡ 0 → Ordered (Procs m ∷ ls)
 unfolding linesFault mayFollow mayStop
@@ -161,14 +160,10 @@ ordered-after-procs n m [] h = absurd (omega arith)
 ordered-after-procs n m (l ∷ ls) h = let c = clear 1 n l ls h in go (c .rest) (one-of (kindOf l) 2 3 (simp or-false at (c .follows)))
   where
     go : linesFault (kindOf l) (suc n) ls .number ≡ 0 → Kind 2 l ⊎ Kind 3 l → Ordered (Procs m ∷ l ∷ ls)
-    go rest (inl e) = record {
-      procs = m;
-      policy = is-policy l e .0;
-      after = ls;
-      body = body-after-policy (suc n) ls (rw e at rest);
-      whole = inl (ap (λ z. Procs m ∷ z ∷ ls) (is-policy l e .1));
-    }
-    go rest (inr e) = record { procs = m; policy = policyWhenAbsent; after = l ∷ ls; body = body-of n l ls e rest; whole = inr (refl, refl) }
+    go rest (inl e) =
+        let (p, q) = is-policy l e in
+        record { procs = m; after = ls; body = body-after-policy (suc n) ls (rw e at rest); whole = inl (p, ap (λ z. Procs m ∷ z ∷ ls) q) }
+    go rest (inr e) = record { procs = m; after = l ∷ ls; body = body-of n l ls e rest; whole = inr refl }
 
 pub ordered-of : (ls : List Line) → linesFault 0 1 ls .number ≡ 0 → Ordered ls
 unfolding linesFault mayFollow mayStop
