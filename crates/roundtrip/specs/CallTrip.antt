@@ -3,9 +3,9 @@
 use mathlib.Core.Path.{_≡_, refl, sym, ap, ap₂, _∙_, subst}
 use mathlib.Core.Bool.{Bool, true, false, false≢true}
 use mathlib.Core.List.{List, [], _∷_, _++_}
-use Prim.Native.Nat.{ℕ, suc, _+_, _*_, _/_, _%_, _≤_, _<_}
+use Prim.Native.Nat.{ℕ, _+_, _*_, _≤_}
 use native.Mathlib.Omega.{arith}
-use lib.Dec.{eqb, leb}
+use lib.Dec.{eqb}
 use lib.ListN.{length, getD, take, drop}
 use lib.Seq.{take-append-seam}
 use borrow.Author.Tests.{eqb-true, le-leb}
@@ -13,7 +13,7 @@ use Rattle.rules.specs.Words.{pick}
 use Rattle.rules.specs.declared.Fault.{Fault}
 use Rattle.rules.specs.Limits.{maxTasks, maxReleases, maxText, taskWidth, releaseWidth}
 use Rattle.rules.specs.Case.{Case, caseOf, taskCount, releaseCount}
-use Rattle.rules.specs.Refusals.{noFault, orNext, roomFault, caseFault, Accepted}
+use Rattle.rules.specs.Refusals.{orNext, roomFault, caseFault, Accepted}
 use Rattle.rules.specs.Answers.{Answer, refusal, result, settled, kept}
 use Rattle.rules.specs.Reader.{caseIn, textFault, readFault, caseValues, readAnswer, readTasks, readReleases}
 use Rattle.rules.specs.Writer.{caseText, writeFault, writeAnswer, writeBytes}

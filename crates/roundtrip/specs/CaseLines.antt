@@ -1,26 +1,26 @@
 -- The lines of a case: they are what the writer writes, they hold the case, and of an accepted case they are in order, read as they are
 -- written and fit into 60,000 bytes.
 use mathlib.Core.Path.{_≡_, refl, sym, ap, ap₂, _∙_}
-use mathlib.Core.Bool.{Bool, true, false, _&&_}
+use mathlib.Core.Bool.{true, _&&_}
 use mathlib.Core.List.{List, [], _∷_, _++_}
-use Prim.Native.Nat.{ℕ, zero, suc, _+_, _*_, _/_, _%_, _^_, _≤_, _<_}
+use Prim.Native.Nat.{ℕ, zero, suc, _+_, _%_, _^_, _≤_, _<_}
 use native.Mathlib.Omega.{arith}
 use lib.Dec.{eqb, leb}
 use lib.ListN.{length, length-append}
 use borrow.Author.Tests.{eqb-true, leb-true}
 use Rattle.rules.specs.Words.{tab}
 use Rattle.rules.specs.declared.Line.{Line}
-use Rattle.rules.specs.declared.Line.the-variants.{Bad, Procs, Policy, Row, End, Release}
-use Rattle.rules.specs.Limits.{maxTasks, maxReleases, maxText, taskWidth, releaseWidth}
+use Rattle.rules.specs.declared.Line.the-variants.{Procs, Policy, End}
+use Rattle.rules.specs.Limits.{maxText, taskWidth, releaseWidth}
 use Rattle.rules.specs.Case.{Case, caseOf, taskCount, releaseCount}
 use Rattle.rules.specs.Refusals.{noFault, procsFault, policyFault, tableFault, tasksFault, endFault, traceFault, caseFault, Accepted}
-use Rattle.rules.specs.Reader.{linesOf, linesFault, noCase, withLine, withLines}
-use Rattle.rules.specs.Writer.{joinedText, procsText, policyText, taskText, endText, releaseText, caseText}
+use Rattle.rules.specs.Reader.{linesFault, noCase, withLine, withLines}
+use Rattle.rules.specs.Writer.{procsText, policyText, taskText, endText, releaseText, caseText}
 use Rattle.bridge.specs.Lists.{tab-long}
 use Rattle.bridge.specs.Legal.{and-left, and-right, unless-clear, next-clear, Legal, legal}
 use Rattle.roundtrip.specs.Fields.{All}
 use Rattle.roundtrip.specs.LineTrip.{wordOf, fieldsIn, lineBytes, Below}
-use Rattle.roundtrip.specs.Lines.{textOf, textOf-append, textOf-tab, lines-written}
+use Rattle.roundtrip.specs.Lines.{textOf, textOf-append, textOf-tab}
 use Rattle.roundtrip.specs.Lengths.{textOf-long}
 use Rattle.roundtrip.specs.Listed.{rowAt, releaseAt, allListed, Kind, rows-list, releases-list, listed-back, lines-back, listed-long, kinds-tab, lines-taken}
 use Rattle.roundtrip.specs.Orders.{Tail, Body, ordered-clear}

@@ -1,13 +1,13 @@
 -- Texts cut at a byte: what stands before the first of it and past it, and that the two and the byte make up the text.
 -- A line is its fields parted by single tabs, with a newline behind.
 use mathlib.Core.Path.{_≡_, refl, sym, ap, ap₂, _∙_}
-use mathlib.Core.Bool.{Bool, true, false, _&&_, true≢false, false≢true}
+use mathlib.Core.Bool.{Bool, true, false, true≢false, false≢true}
 use mathlib.Core.List.{List, [], _∷_, _++_, append-assoc}
 use Prim.Native.Nat.{ℕ, suc, _+_, _≤_, _<_}
 use native.Mathlib.Omega.{arith}
 use lib.Dec.{eqb}
 use lib.ListN.{length, length-append}
-use borrow.Author.Tests.{eq-eqb, ne-eqb, eqb-true, eqb-false}
+use borrow.Author.Tests.{eq-eqb, ne-eqb, eqb-true}
 use Rattle.rules.specs.Words.{pick}
 use Rattle.rules.specs.Text.{newlineByte, tabByte, same, upTo, past, has, allDigits, digitsOf}
 use Rattle.rules.specs.Writer.{moreFields, lineText}

@@ -1,16 +1,12 @@
 -- One line: what the writer writes of what a line says reads as that again, and a line that is not badly formed is just the bytes
 -- that the writer writes of what it says.
-use mathlib.Core.Path.{_≡_, refl, sym, ap, ap₂, _∙_}
-use mathlib.Core.Bool.{Bool, true, false}
+use mathlib.Core.Path.{_≡_, refl, sym, ap, _∙_}
+use mathlib.Core.Bool.{true}
 use mathlib.Core.List.{List, [], _∷_, _++_}
-use Prim.Native.Nat.{ℕ, zero, suc, _+_, _*_, _^_, _≤_, _<_}
+use Prim.Native.Nat.{ℕ, zero, suc, _+_, _^_, _≤_, _<_}
 use native.Mathlib.Omega.{arith}
 use lib.Dec.{eqb}
 use lib.ListN.{length}
-use borrow.Author.Tests.{eqb-false}
-use Rattle.rules.specs.Words.{pick}
-use Rattle.rules.specs.declared.Num.{Num}
-use Rattle.rules.specs.declared.Num.the-variants as Num·
 use Rattle.rules.specs.declared.Line.{Line}
 use Rattle.rules.specs.declared.Line.the-variants.{Bad, Procs, Policy, Row, End, Release}
 use Rattle.rules.specs.Text.{newlineByte, tabByte, same, has, fieldOf, afterField, numberIn, digitsOf, policyName, procsWord, policyWord, taskWord, endWord, releaseWord, edfWord, edfCfWord}

@@ -3,18 +3,15 @@
 use mathlib.Core.Path.{_≡_, refl, sym, ap, ap₂, _∙_}
 use mathlib.Core.Bool.{Bool, true, false}
 use mathlib.Core.List.{List, [], _∷_, _++_, append-assoc}
-use Prim.Native.Nat.{ℕ, zero, suc, _+_, _*_, _^_, _≤_, _<_}
+use Prim.Native.Nat.{ℕ, zero, suc, _+_, _^_, _≤_}
 use native.Mathlib.Omega.{arith}
-use lib.Dec.{eqb}
 use lib.ListN.{length, length-append}
 use Rattle.rules.specs.Words.{pick, tab}
 use Rattle.rules.specs.declared.Line.{Line}
-use Rattle.rules.specs.declared.Line.the-variants.{Bad, Procs, Policy, Row, End, Release}
-use Rattle.rules.specs.Text.{newlineByte, tabByte, has, lineOf, afterLine, digitsOf, policyName, edfWord, edfCfWord}
-use Rattle.rules.specs.Reader.{lineSays, linesIn, linesOf, kindOf}
-use Rattle.rules.specs.Writer.{joinedText, moreFields, lineText}
-use Rattle.bridge.specs.Lists.{picked}
-use Rattle.roundtrip.specs.Digits.{digits-few}
+use Rattle.rules.specs.declared.Line.the-variants.{Bad}
+use Rattle.rules.specs.Text.{newlineByte, has, lineOf, afterLine}
+use Rattle.rules.specs.Reader.{lineSays, linesIn, linesOf}
+use Rattle.rules.specs.Writer.{joinedText}
 use Rattle.roundtrip.specs.Fields.{All, upTo-seam, past-seam, has-seam, cut-at, past-less, parted-no-newline}
 use Rattle.roundtrip.specs.LineTrip.{wordOf, fieldsIn, lineBody, lineBytes, bytes-body, Said, word-plain, fields-plain, Below, written-says, says-written}
 

@@ -1,17 +1,16 @@
 -- The order of lines: lines without a fault are procs, perhaps a policy, one or more tasks, the end, and releases; and such lines have
 -- no fault.
-use mathlib.Core.Path.{_≡_, refl, sym, ap, ap₂, _∙_, subst}
-use mathlib.Core.Bool.{Bool, true, false, _&&_, _||_, not, or-false}
+use mathlib.Core.Path.{_≡_, refl, sym, ap, _∙_, subst}
+use mathlib.Core.Bool.{Bool, true, false, _||_, not, or-false}
 use mathlib.Core.Logic.{_⊎_, inl, inr}
 use mathlib.Core.List.{List, [], _∷_, _++_}
-use Prim.Native.Nat.{ℕ, zero, suc, _+_, _≤_, _<_}
+use Prim.Native.Nat.{ℕ, suc, _+_}
 use native.Mathlib.Omega.{arith}
 use lib.Dec.{eqb}
 use borrow.Author.Tests.{eqb-true, eqb-false, ne-eqb, not-true}
-use Rattle.rules.specs.declared.Fault.{Fault}
 use Rattle.rules.specs.declared.Line.{Line}
-use Rattle.rules.specs.declared.Line.the-variants.{Bad, Procs, Policy, Row, End, Release}
-use Rattle.rules.specs.Refusals.{noFault, unless, orNext, first}
+use Rattle.rules.specs.declared.Line.the-variants.{Procs, Policy, End}
+use Rattle.rules.specs.Refusals.{noFault, unless, orNext}
 use Rattle.rules.specs.Reader.{kindOf, mayFollow, mayStop, linesFault}
 use Rattle.bridge.specs.Legal.{unless-clear, next-clear}
 use Rattle.roundtrip.specs.Fields.{All}

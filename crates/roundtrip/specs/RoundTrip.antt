@@ -1,14 +1,14 @@
 -- The round trip of the case text (document 01, "The case text"): reading what the writer wrote gives the same case; writing what was
 -- read gives the same text, but for the policy line where it was absent.
-use mathlib.Core.Path.{_≡_, refl, sym, ap, ap₂, _∙_}
-use mathlib.Core.Bool.{Bool, true, false}
+use mathlib.Core.Path.{_≡_, sym, ap, _∙_}
+use mathlib.Core.Bool.{Bool, true}
 use mathlib.Core.Logic.{_⊎_, inl, inr}
-use mathlib.Core.List.{List, [], _∷_, _++_, append-assoc}
-use Prim.Native.Nat.{ℕ, suc, _+_, _^_, _≤_, _<_}
+use mathlib.Core.List.{List, [], _∷_, _++_}
+use Prim.Native.Nat.{ℕ, _+_, _^_}
 use native.Mathlib.Omega.{arith}
 use lib.Dec.{eqb}
 use lib.ListN.{length}
-use borrow.Author.Tests.{eq-eqb, le-leb}
+use borrow.Author.Tests.{le-leb}
 use Rattle.rules.specs.Words.{pick}
 use Rattle.rules.specs.declared.Line.{Line}
 use Rattle.rules.specs.declared.Line.the-variants.{Procs, Policy}
@@ -19,9 +19,9 @@ use Rattle.rules.specs.Text.{newlineByte, lineOf, afterLine, fieldOf}
 use Rattle.rules.specs.Reader.{wordKind, linesOf, kindOf, linesFault, policyWhenAbsent, noCase, withLine, withLines, caseIn, lengthFault, textFault}
 use Rattle.rules.specs.Writer.{policyText, caseText}
 use Rattle.bridge.specs.Legal.{next-clear, legal}
-use Rattle.roundtrip.specs.LineTrip.{wordOf, fieldsIn, lineBody, lineBytes, bytes-body, body-kind}
-use Rattle.roundtrip.specs.Lines.{line-cut, textOf, textOf-cons, lineOf-text, afterLine-text, lines-written, lines-read}
-use Rattle.roundtrip.specs.Orders.{all-said, Body, body-tail, Ordered, ordered-of}
+use Rattle.roundtrip.specs.LineTrip.{wordOf, fieldsIn, lineBytes, body-kind}
+use Rattle.roundtrip.specs.Lines.{textOf, textOf-cons, lineOf-text, afterLine-text, lines-written, lines-read}
+use Rattle.roundtrip.specs.Orders.{all-said, body-tail, Ordered, ordered-of}
 use Rattle.roundtrip.specs.CaseLines.{caseLines, case-text, accepted-whole, lines-hold, lines-held, lines-below, lines-clear, text-fits}
 
 -- ---- reading what the writer wrote
