@@ -21,11 +21,6 @@ All P [] = Unit
 All P (x ∷ xs) = P x × All P xs
 
 -- ---- texts that are the same
-pub same-self : (s : List ℕ) → same s s ≡ true
-unfolding same
-same-self [] = refl
-same-self (b ∷ s) = rw (eq-eqb b b refl, same-self s)
-
 pub same-true : (s t : List ℕ) → same s t ≡ true → s ≡ t
 unfolding same
 same-true [] [] e = refl
@@ -49,11 +44,16 @@ unfolding past
 past-seam x [] t h = rw (eq-eqb x x refl)
 past-seam x (b ∷ s) t h = let w = without-head x b s h in rw (w .0, past-seam x s t (w .1))
 
--- and where there is none, all of it is before
+-- and where there is none, all of it is before and nothing past
 pub upTo-none : (x : ℕ) (s : List ℕ) → has x s ≡ false → upTo x s ≡ s
 unfolding upTo
 upTo-none x [] h = refl
 upTo-none x (b ∷ s) h = let w = without-head x b s h in rw (w .0, upTo-none x s (w .1))
+
+pub past-none : (x : ℕ) (s : List ℕ) → has x s ≡ false → past x s ≡ []
+unfolding past
+past-none x [] h = refl
+past-none x (b ∷ s) h = let w = without-head x b s h in rw (w .0, past-none x s (w .1))
 
 pub has-seam : (x : ℕ) (s t : List ℕ) → has x (s ++ (x ∷ t)) ≡ true
 unfolding has
@@ -124,7 +124,7 @@ unfolding parted All has
 parted-no-newline f [] p ps = p .no-newline
 parted-no-newline f (g ∷ gs) p ps = without-append newlineByte f _ (p .no-newline) (parted-no-newline g gs (ps .0) (ps .1))
 
-pub parted-some : (f : List ℕ) (fs : List (List ℕ)) → 1 ≤ length f → 1 ≤ length (parted f fs)
+parted-some : (f : List ℕ) (fs : List (List ℕ)) → 1 ≤ length f → 1 ≤ length (parted f fs)
 unfolding parted
 parted-some f [] h = h
 parted-some f (g ∷ gs) h = omega (arith, length-append f (tabByte ∷ parted g gs))

@@ -9,7 +9,7 @@ use lib.Dec.{eqb}
 use lib.ListN.{length}
 use Rattle.rules.specs.declared.Line.{Line}
 use Rattle.rules.specs.declared.Line.the-variants.{Bad, Procs, Policy, Row, End, Release}
-use Rattle.rules.specs.Text.{newlineByte, tabByte, same, has, fieldOf, afterField, numberIn, digitsOf, policyName, procsWord, policyWord, taskWord, endWord, releaseWord, edfWord, edfCfWord}
+use Rattle.rules.specs.Text.{newlineByte, tabByte, same, has, fieldOf, afterField, digitsOf, policyName, procsWord, policyWord, taskWord, endWord, releaseWord, edfWord, edfCfWord}
 use Rattle.rules.specs.Reader.{withNumber, oneNumber, twoNumbers, threeNumbers, policyIn, wordKind, fieldsSay, lineSays, kindOf}
 use Rattle.rules.specs.Writer.{lineText}
 use Rattle.bridge.specs.Lists.{picked}
@@ -83,10 +83,7 @@ Below b (Row T C D) = (T < b) × (C < b) × (D < b)
 Below b (End e) = e < b
 Below b (Release t n) = (t < b) × (n < b)
 
--- a number of at most nine digits that is written in a field is handed on, and so is what stands after the field
-number-handed : (v : ℕ) (next : ℕ → Line) → v < 10 ^ 9 → withNumber (numberIn (digitsOf v)) next ≡ next v
-number-handed v next h = rw (written-reads v h)
-
+-- the first field of parted fields, and the others
 field-first : (f : List ℕ) (fs : List (List ℕ)) → Plain f → fieldOf (parted f fs) ≡ f
 unfolding fieldOf parted
 field-first f [] p = upTo-none tabByte f (p .no-tab)
@@ -96,21 +93,23 @@ field-others : (f g : List ℕ) (gs : List (List ℕ)) → Plain f → afterFiel
 unfolding afterField parted
 field-others f g gs p = past-seam tabByte f (parted g gs) (p .no-tab)
 
+-- a number of at most nine digits that is written in a field is handed on, with what stands after the field where there is more
 one-written : (a : ℕ) (say : ℕ → Line) → a < 10 ^ 9 → oneNumber (digitsOf a) say ≡ say a
 unfolding oneNumber
-one-written a say h = number-handed a say h
+one-written a say h = rw (written-reads a h)
+
+more-written : (a : ℕ) (g : List ℕ) (gs : List (List ℕ)) (next : List ℕ → ℕ → Line) → a < 10 ^ 9
+    → let s = parted (digitsOf a) (g ∷ gs) in oneNumber (fieldOf s) (next (afterField s)) ≡ next (parted g gs) a
+more-written a g gs next h =
+    rw (field-first (digitsOf a) (g ∷ gs) (digits-plain a), field-others (digitsOf a) g gs (digits-plain a)) (one-written a (next (parted g gs)) h)
 
 two-written : (a b : ℕ) (say : ℕ → ℕ → Line) → a < 10 ^ 9 → b < 10 ^ 9 → twoNumbers (parted (digitsOf a) (digitsOf b ∷ [])) say ≡ say a b
-unfolding twoNumbers parted
-two-written a b say h k =
-    rw (field-first (digitsOf a) (digitsOf b ∷ []) (digits-plain a), field-others (digitsOf a) (digitsOf b) [] (digits-plain a))
-    (number-handed a (λ v. oneNumber (digitsOf b) (say v)) h ∙ one-written b (say a) k)
+unfolding oneNumber twoNumbers parted
+two-written a b say h k = more-written a (digitsOf b) [] (λ s v. oneNumber s (say v)) h ∙ one-written b (say a) k
 
 three-written : (a b d : ℕ) (say : ℕ → ℕ → ℕ → Line) → a < 10 ^ 9 → b < 10 ^ 9 → d < 10 ^ 9 → threeNumbers (parted (digitsOf a) (digitsOf b ∷ digitsOf d ∷ [])) say ≡ say a b d
-unfolding threeNumbers
-three-written a b d say h k l =
-    rw (field-first (digitsOf a) (digitsOf b ∷ digitsOf d ∷ []) (digits-plain a), field-others (digitsOf a) (digitsOf b) (digitsOf d ∷ []) (digits-plain a))
-    (number-handed a (λ v. twoNumbers (parted (digitsOf b) (digitsOf d ∷ [])) (say v)) h ∙ two-written b d (say a) k l)
+unfolding oneNumber threeNumbers
+three-written a b d say h k l = more-written a (digitsOf b) (digitsOf d ∷ []) (λ s v. twoNumbers s (say v)) h ∙ two-written b d (say a) k l
 
 name-written : (p : ℕ) → p ≤ 1 → policyIn (policyName p) ≡ Policy p
 unfolding policyIn policyName same

@@ -66,7 +66,7 @@ pub is-policy : (l : Line) → Kind 2 l → (p : ℕ) × (l ≡ Policy p)
 unfolding Form
 is-policy l h = subst (λ k. Form k l) h (formed l)
 
-pub is-row : (l : Line) → Kind 3 l → (T : ℕ) × (C : ℕ) × (D : ℕ) × (l ≡ Row T C D)
+is-row : (l : Line) → Kind 3 l → (T : ℕ) × (C : ℕ) × (D : ℕ) × (l ≡ Row T C D)
 unfolding Form
 is-row l h = subst (λ k. Form k l) h (formed l)
 
@@ -74,7 +74,7 @@ pub is-end : (l : Line) → Kind 4 l → (e : ℕ) × (l ≡ End e)
 unfolding Form
 is-end l h = subst (λ k. Form k l) h (formed l)
 
-pub is-release : (l : Line) → Kind 5 l → (t : ℕ) × (n : ℕ) × (l ≡ Release t n)
+is-release : (l : Line) → Kind 5 l → (t : ℕ) × (n : ℕ) × (l ≡ Release t n)
 unfolding Form
 is-release l h = subst (λ k. Form k l) h (formed l)
 
@@ -153,7 +153,7 @@ module _ (k w : ℕ) (at : List ℕ → ℕ → Line) (lists : Lists k w at) whe
   lines-back ls a = tab-listed ls 0 [] a (sym (zero-mul w))
 
 -- ---- what such lines add to a case: task lines to its table, release lines to its trace
-unfoldable pub adding : ℕ → Case → List ℕ → Case
+unfoldable adding : ℕ → Case → List ℕ → Case
 adding k c xs = caseOf (c .procs) (c .policy) (c .table ++ pick (eqb k 3) xs []) (c .end) (c .trace ++ pick (eqb k 5) xs [])
 
 -- a case with other task and release numbers

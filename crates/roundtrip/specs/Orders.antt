@@ -27,12 +27,12 @@ one-of k i j e = go (eqb k i) refl e
 
 -- ---- one line
 -- lines without a fault: the first says something and may follow the one before, and those after it are without a fault
-pub record Clear (before n : ℕ) (l : Line) (ls : List Line) : Type 0 where
-  pub said : Said l
-  pub follows : mayFollow before (kindOf l) ≡ true
-  pub rest : linesFault (kindOf l) (suc n) ls .number ≡ 0
+record Clear (before n : ℕ) (l : Line) (ls : List Line) : Type 0 where
+  said : Said l
+  follows : mayFollow before (kindOf l) ≡ true
+  rest : linesFault (kindOf l) (suc n) ls .number ≡ 0
 
-pub clear : (before n : ℕ) (l : Line) (ls : List Line) → linesFault before n (l ∷ ls) .number ≡ 0 → Clear before n l ls
+clear : (before n : ℕ) (l : Line) (ls : List Line) → linesFault before n (l ∷ ls) .number ≡ 0 → Clear before n l ls
 unfolding linesFault Said
 clear before n l ls h =
     let a = next-clear (unless (not (eqb (kindOf l) 0)) 2 n) _ h in
@@ -44,7 +44,7 @@ clear before n l ls h =
       rest = d .0;
     }
 
-pub fault-next : (before n k : ℕ) (l : Line) (ls : List Line) → Kind (suc k) l → mayFollow before (suc k) ≡ true → linesFault (suc k) (suc n) ls ≡ noFault → linesFault before n (l ∷ ls) ≡ noFault
+fault-next : (before n k : ℕ) (l : Line) (ls : List Line) → Kind (suc k) l → mayFollow before (suc k) ≡ true → linesFault (suc k) (suc n) ls ≡ noFault → linesFault before n (l ∷ ls) ≡ noFault
 unfolding linesFault orNext
 fault-next before n k l ls e f g = rw (e, ne-eqb (suc k) 0 (λ z. omega arith), f, g)
 
@@ -142,7 +142,7 @@ unfolding linesFault mayFollow mayStop
 body-after-policy n [] h = absurd (omega arith)
 body-after-policy n (l ∷ ls) h = let c = clear 2 n l ls h in body-of n l ls (eqb-true (kindOf l) 3 (simp or-false at (c .follows))) (c .rest)
 
-pub body-clear : (ls : List Line) → Body ls → (n : ℕ) → linesFault 2 n ls ≡ noFault
+body-clear : (ls : List Line) → Body ls → (n : ℕ) → linesFault 2 n ls ≡ noFault
 unfolding mayFollow
 body-clear ls b n = rw (b .whole) (fault-next 2 n 2 (b .task) (b .others) (b .is-task) refl (tail-clear (b .others) (b .tail) (suc n)))
 

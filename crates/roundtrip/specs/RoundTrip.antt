@@ -75,23 +75,23 @@ text-ordered ls o = go (o .whole)
     go (inr e) =
         rw e (held policyWhenAbsent ∙ rw (o .body .whole) (sym (policy-put-in (Procs (o .procs)) (o .body .task) (o .body .others) (o .body .is-task))))
 
+-- a text in which the reader finds no fault: no line is at fault, and its case is accepted
+lines-no-fault : (s : List ℕ) → textFault s .number ≡ 0 → linesFault 0 1 (linesOf s) .number ≡ 0
+unfolding textFault
+lines-no-fault s h = next-clear (linesFault 0 1 (linesOf s)) _ (next-clear (lengthFault s) _ h .1) .0
+
+pub case-accepted : (s : List ℕ) → textFault s .number ≡ 0 → Accepted (caseIn s)
+unfolding textFault Accepted
+case-accepted s h = next-clear (caseFault (caseIn s)) _ (next-clear (linesFault 0 1 (linesOf s)) _ (next-clear (lengthFault s) _ h .1) .1) .0
+
 -- the same text, but for the policy line where it was absent
 pub text-read : (s : List ℕ) → textFault s .number ≡ 0 → caseText (caseIn s) ≡ withPolicy s
-unfolding textFault caseIn
+unfolding caseIn
 text-read s h =
-    let a = next-clear (lengthFault s) _ h in
-    let b : linesFault 0 1 (linesOf s) .number ≡ 0 = next-clear (linesFault 0 1 (linesOf s)) _ (a .1) .0 in
-    text-ordered (linesOf s) (ordered-of (linesOf s) b) ∙ ap withPolicy (lines-read s (all-said 0 1 (linesOf s) b))
+    let e = lines-no-fault s h in
+    text-ordered (linesOf s) (ordered-of (linesOf s) e) ∙ ap withPolicy (lines-read s (all-said 0 1 (linesOf s) e))
 
 -- where the policy line was there, just the same text
 pub text-read-given : (s : List ℕ) → textFault s .number ≡ 0 → policyGiven s ≡ true → caseText (caseIn s) ≡ s
 unfolding withPolicy
 text-read-given s h g = text-read s h ∙ rw g
-
--- an accepted text has an accepted case
-pub case-accepted : (s : List ℕ) → textFault s .number ≡ 0 → Accepted (caseIn s)
-unfolding textFault Accepted
-case-accepted s h =
-    let a = next-clear (lengthFault s) _ h in
-    let b = next-clear (linesFault 0 1 (linesOf s)) _ (a .1) in
-    next-clear (caseFault (caseIn s)) _ (b .1) .0
