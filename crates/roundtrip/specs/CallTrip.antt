@@ -88,7 +88,8 @@ written-as : (c : Case) (room : List ℕ) → writeFault c (length room) .number
 unfolding writeAnswer writeBytes
 written-as c room h = record { answer = settled-clear (writeFault c (length room)) _ h; bytes = kept-clear (writeFault c (length room)) _ _ h }
 
-read-clear : (s tasks releases : List ℕ) → textFault s .number ≡ 0 → maxTasks * taskWidth ≤ length tasks → maxReleases * releaseWidth ≤ length releases → readFault s (length tasks) (length releases) .number ≡ 0
+read-clear : (s tasks releases : List ℕ) → textFault s .number ≡ 0 → maxTasks * taskWidth ≤ length tasks → maxReleases * releaseWidth ≤ length releases
+    → readFault s (length tasks) (length releases) .number ≡ 0
 unfolding readFault roomFault orNext
 read-clear s tasks releases h p q = rw (le-leb (maxTasks * taskWidth) (length tasks) p, le-leb (maxReleases * releaseWidth) (length releases) q, h)
 
@@ -98,7 +99,10 @@ write-clear c room h p = rw (h, le-leb (length (caseText c)) (length room) p)
 
 -- ---- both calls
 -- reading what the writer wrote gives the same case
-pub read-what-was-written : (c : Case) (room : List ℕ) (n : ℕ) (tasks releases : List ℕ) → writeAnswer c room ≡ result (n ∷ []) → maxTasks * taskWidth ≤ length tasks → maxReleases * releaseWidth ≤ length releases
+pub read-what-was-written : (c : Case) (room : List ℕ) (n : ℕ) (tasks releases : List ℕ)
+    → writeAnswer c room ≡ result (n ∷ [])
+    → maxTasks * taskWidth ≤ length tasks
+    → maxReleases * releaseWidth ≤ length releases
     → ReadAs (take n (writeBytes c room)) tasks releases c
 unfolding writeAnswer writeFault Accepted
 read-what-was-written c room n tasks releases h p q =
@@ -114,7 +118,9 @@ pub with-policy-fits : (s : List ℕ) → textFault s .number ≡ 0 → length (
 with-policy-fits s h = rw (text-read s h) at (text-fits (caseIn s) (case-accepted s h))
 
 -- writing what was read gives the same text, but for the policy line where it was absent
-pub written-what-was-read : (s tasks releases vs room : List ℕ) → readAnswer s tasks releases ≡ result vs → length (withPolicy s) ≤ length room
+pub written-what-was-read : (s tasks releases vs room : List ℕ)
+    → readAnswer s tasks releases ≡ result vs
+    → length (withPolicy s) ≤ length room
     → WrittenAs (inHand vs (readTasks s tasks releases) (readReleases s tasks releases)) room (withPolicy s)
 unfolding readAnswer readFault
 written-what-was-read s tasks releases vs room h p =
@@ -124,5 +130,6 @@ written-what-was-read s tasks releases vs room h p =
     let clear : textFault s .number ≡ 0 = next-clear (textFault s) _ (r .1) .0 in
     let e = case-accepted s clear in
     let text = text-read s clear in
-    let hand : inHand vs (readTasks s tasks releases) (readReleases s tasks releases) ≡ caseIn s = ap (λ l. inHand l (readTasks s tasks releases) (readReleases s tasks releases)) (sym (a .1)) ∙ read-as s tasks releases (a .0) (accepted-whole (caseIn s) e) .in-hand in
+    let hand : inHand vs (readTasks s tasks releases) (readReleases s tasks releases) ≡ caseIn s =
+    ap (λ l. inHand l (readTasks s tasks releases) (readReleases s tasks releases)) (sym (a .1)) ∙ read-as s tasks releases (a .0) (accepted-whole (caseIn s) e) .in-hand in
     rw hand (subst (WrittenAs (caseIn s) room) text (written-as (caseIn s) room (write-clear (caseIn s) room e (rw text p))))

@@ -107,7 +107,8 @@ two-written : (a b : ℕ) (say : ℕ → ℕ → Line) → a < 10 ^ 9 → b < 10
 unfolding oneNumber twoNumbers parted
 two-written a b say h k = more-written a (digitsOf b) [] (λ s v. oneNumber s (say v)) h ∙ one-written b (say a) k
 
-three-written : (a b d : ℕ) (say : ℕ → ℕ → ℕ → Line) → a < 10 ^ 9 → b < 10 ^ 9 → d < 10 ^ 9 → threeNumbers (parted (digitsOf a) (digitsOf b ∷ digitsOf d ∷ [])) say ≡ say a b d
+three-written : (a b d : ℕ) (say : ℕ → ℕ → ℕ → Line) → a < 10 ^ 9 → b < 10 ^ 9 → d < 10 ^ 9
+    → threeNumbers (parted (digitsOf a) (digitsOf b ∷ digitsOf d ∷ [])) say ≡ say a b d
 unfolding oneNumber threeNumbers
 three-written a b d say h k l = more-written a (digitsOf b) (digitsOf d ∷ []) (λ s v. twoNumbers s (say v)) h ∙ two-written b d (say a) k l
 
@@ -151,13 +152,15 @@ one-read : (P : Line → Type 0) (s : List ℕ) (say : ℕ → Line) → P Bad �
 unfolding oneNumber
 one-read P s say bad good = reads-written (λ n. P (withNumber n say)) s bad good
 
-two-read : (P : Line → Type 0) (s : List ℕ) (say : ℕ → ℕ → Line) → P Bad → ((a b : ℕ) → s ≡ parted (digitsOf a) (digitsOf b ∷ []) → P (say a b)) → P (twoNumbers s say)
+two-read : (P : Line → Type 0) (s : List ℕ) (say : ℕ → ℕ → Line)
+    → P Bad → ((a b : ℕ) → s ≡ parted (digitsOf a) (digitsOf b ∷ []) → P (say a b)) → P (twoNumbers s say)
 unfolding twoNumbers fieldOf afterField parted oneNumber
 two-read P s say bad good =
     one-read P (fieldOf s) (λ a. oneNumber (afterField s) (say a)) bad
     (λ a p. one-read P (afterField s) (say a) bad (λ b q. good a b (parted-cons s (digitsOf a) (digitsOf b) [] p q (digits-some b))))
 
-three-read : (P : Line → Type 0) (s : List ℕ) (say : ℕ → ℕ → ℕ → Line) → P Bad → ((a b d : ℕ) → s ≡ parted (digitsOf a) (digitsOf b ∷ digitsOf d ∷ []) → P (say a b d)) → P (threeNumbers s say)
+three-read : (P : Line → Type 0) (s : List ℕ) (say : ℕ → ℕ → ℕ → Line)
+    → P Bad → ((a b d : ℕ) → s ≡ parted (digitsOf a) (digitsOf b ∷ digitsOf d ∷ []) → P (say a b d)) → P (threeNumbers s say)
 unfolding threeNumbers fieldOf afterField oneNumber
 three-read P s say bad good =
     one-read P (fieldOf s) (λ a. twoNumbers (afterField s) (say a)) bad
@@ -181,7 +184,8 @@ returns-bad : (s : List ℕ) → Returns s Bad
 unfolding Said
 returns-bad s h = absurd (h refl)
 
-returns-fields : (s : List ℕ) (l : Line) (g : List ℕ) (gs : List (List ℕ)) → same (fieldOf s) (wordOf l) ≡ true → afterField s ≡ parted g gs → 1 ≤ length g → fieldsIn l ≡ g ∷ gs → Returns s l
+returns-fields : (s : List ℕ) (l : Line) (g : List ℕ) (gs : List (List ℕ))
+    → same (fieldOf s) (wordOf l) ≡ true → afterField s ≡ parted g gs → 1 ≤ length g → fieldsIn l ≡ g ∷ gs → Returns s l
 unfolding fieldOf afterField lineBody
 returns-fields s l g gs p q n e h =
     bytes-body l ∙ ap (λ (t : List ℕ). t ++ (newlineByte ∷ [])) (ap (parted (wordOf l)) e ∙ sym (parted-cons s (wordOf l) g gs (same-true (fieldOf s) (wordOf l) p) q n))

@@ -44,7 +44,8 @@ clear before n l ls h =
       rest = d .0;
     }
 
-fault-next : (before n k : ℕ) (l : Line) (ls : List Line) → Kind (suc k) l → mayFollow before (suc k) ≡ true → linesFault (suc k) (suc n) ls ≡ noFault → linesFault before n (l ∷ ls) ≡ noFault
+fault-next : (before n k : ℕ) (l : Line) (ls : List Line)
+    → Kind (suc k) l → mayFollow before (suc k) ≡ true → linesFault (suc k) (suc n) ls ≡ noFault → linesFault before n (l ∷ ls) ≡ noFault
 unfolding linesFault orNext
 fault-next before n k l ls e f g = rw (e, ne-eqb (suc k) 0 (λ z. omega arith), f, g)
 
