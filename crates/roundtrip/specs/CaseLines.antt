@@ -81,7 +81,9 @@ pub lines-hold : (c : Case) → Whole c → withLines noCase (caseLines c) ≡ c
 unfolding withLines withLine caseLines
 lines-hold c w =
     lines-taken (c .procs) (c .policy) (rowLines (c .table)) (c .end) (releaseLines (c .trace)) (rows-kind (c .table)) (releases-kind (c .trace))
-    ∙ ap₂ (λ ts rs. caseOf (c .procs) (c .policy) ts (c .end) rs) (listed-back 3 3 rowAt rows-list (taskCount (c .table)) (c .table) (omega (arith, w .threes))) (listed-back 5 2 releaseAt releases-list (releaseCount (c .trace)) (c .trace) (omega (arith, w .twos)))
+    ∙ ap₂ (λ ts rs. caseOf (c .procs) (c .policy) ts (c .end) rs)
+    (listed-back 3 3 rowAt rows-list (taskCount (c .table)) (c .table) (omega (arith, w .threes)))
+    (listed-back 5 2 releaseAt releases-list (releaseCount (c .trace)) (c .trace) (omega (arith, w .twos)))
 
 -- and lines in order are the lines of the case that they hold
 pub lines-held : (m p : ℕ) (ls : List Line) → Tail ls → caseLines (withLines (caseOf m p [] 0 []) ls) ≡ Procs m ∷ Policy p ∷ ls
@@ -154,7 +156,9 @@ lines-clear c w = ordered-clear (c .procs) (c .policy) _ (lines-body c w)
 lines-few : (c : Case) → Legal c → length (caseLines c) ≤ 2035
 unfolding caseLines
 lines-few c g =
-    omega (arith, length-append (rowLines (c .table)) (End (c .end) ∷ releaseLines (c .trace)), tab-long (rowAt (c .table)) 0 (taskCount (c .table)), tab-long (releaseAt (c .trace)) 0 (releaseCount (c .trace)), g .tasks-few, g .releases-few)
+    let rows = tab-long (rowAt (c .table)) 0 (taskCount (c .table)) in
+    let releases = tab-long (releaseAt (c .trace)) 0 (releaseCount (c .trace)) in
+    omega (arith, length-append (rowLines (c .table)) (End (c .end) ∷ releaseLines (c .trace)), rows, releases, g .tasks-few, g .releases-few)
 
 pub text-fits : (c : Case) → Accepted c → length (caseText c) ≤ maxText
 text-fits c e = let g = legal c e in rw (case-text c) (omega (arith, textOf-long (caseLines c) (lines-below c g), lines-few c g))

@@ -185,7 +185,9 @@ number-digits s e =
     let len = length s in
     let a = and-left (leb 1 len && leb len 9 && noLeadingZero s) (allDigits s) e in
     let b = and-left (leb 1 len && leb len 9) (noLeadingZero s) a in
-    digits-whole s (leb-true 1 len (and-left (leb 1 len) _ b)) (leb-true len 9 (and-right (leb 1 len) _ b)) (and-right (leb 1 len && leb len 9) (noLeadingZero s) a) (and-right (leb 1 len && leb len 9 && noLeadingZero s) (allDigits s) e)
+    digits-whole s (leb-true 1 len (and-left (leb 1 len) _ b)) (leb-true len 9 (and-right (leb 1 len) _ b))
+    (and-right (leb 1 len && leb len 9) (noLeadingZero s) a)
+    (and-right (leb 1 len && leb len 9 && noLeadingZero s) (allDigits s) e)
 
 -- a field says a number that it is the digits of, or none at all
 pub reads-written : (P : Num → Type 0) (s : List ℕ) → P Bad → ((v : ℕ) → s ≡ digitsOf v → P (Value v)) → P (numberIn s)

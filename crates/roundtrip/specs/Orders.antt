@@ -121,8 +121,9 @@ rows-clear (l ∷ rows) ls a h n = fault-next 3 n 2 l (rows ++ ls) (a .0) refl (
 tail-clear : (ls : List Line) → Tail ls → (n : ℕ) → linesFault 3 n ls ≡ noFault
 unfolding mayFollow
 tail-clear ls t n =
+    let releases : (n : ℕ) → linesFault 4 n (t .releases) ≡ noFault = λ n. end-release n (t .releases) ∙ releases-clear n (t .releases) (t .are-releases) in
     rw (t .whole)
-    (rows-clear (t .rows) (End (t .end) ∷ t .releases) (t .are-rows) (λ n. fault-next 3 n 3 (End (t .end)) (t .releases) refl refl (end-release (suc n) (t .releases) ∙ releases-clear (suc n) (t .releases) (t .are-releases))) n)
+    (rows-clear (t .rows) (End (t .end) ∷ t .releases) (t .are-rows) (λ n. fault-next 3 n 3 (End (t .end)) (t .releases) refl refl (releases (suc n))) n)
 
 -- ---- after processors and policy: one task or more, the end, releases
 pub record Body (ls : List Line) : Type 0 where
