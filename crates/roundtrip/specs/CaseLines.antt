@@ -1,0 +1,164 @@
+-- The lines of a case: they are what the writer writes, they hold the case, and of an accepted case they are in order, read as they are
+-- written and fit into 60,000 bytes.
+use mathlib.Core.Path.{_≡_, refl, sym, ap, ap₂, _∙_}
+use mathlib.Core.Bool.{true, _&&_}
+use mathlib.Core.List.{List, [], _∷_, _++_}
+use Prim.Native.Nat.{ℕ, zero, suc, _+_, _%_, _^_, _≤_, _<_}
+use native.Mathlib.Omega.{arith}
+use lib.Dec.{eqb, leb}
+use lib.ListN.{length, length-append}
+use borrow.Author.Tests.{eqb-true, leb-true}
+use Rattle.rules.specs.Words.{tab}
+use Rattle.rules.specs.declared.Line.{Line}
+use Rattle.rules.specs.declared.Line.the-variants.{Procs, Policy, End}
+use Rattle.rules.specs.Limits.{maxText, taskWidth, releaseWidth}
+use Rattle.rules.specs.Case.{Case, caseOf, taskCount, releaseCount}
+use Rattle.rules.specs.Refusals.{noFault, procsFault, policyFault, tableFault, tasksFault, endFault, traceFault, caseFault, Accepted}
+use Rattle.rules.specs.Reader.{linesFault, noCase, withLine, withLines}
+use Rattle.rules.specs.Writer.{procsText, policyText, taskText, endText, releaseText, caseText}
+use Rattle.bridge.specs.Lists.{tab-long}
+use Rattle.bridge.specs.Legal.{and-left, and-right, unless-clear, next-clear, Legal, legal}
+use Rattle.roundtrip.specs.Fields.{All}
+use Rattle.roundtrip.specs.LineTrip.{wordOf, fieldsIn, lineBytes, Below}
+use Rattle.roundtrip.specs.Lines.{textOf, textOf-append, textOf-tab}
+use Rattle.roundtrip.specs.Lengths.{textOf-long}
+use Rattle.roundtrip.specs.Listed.{rowAt, releaseAt, allListed, Kind, rows-list, releases-list, listed-back, lines-back, listed-long, kinds-tab, lines-taken}
+use Rattle.roundtrip.specs.Orders.{Tail, Body, ordered-clear}
+
+-- the task lines of a table, the release lines of a trace
+abbrev pub rowLines : List ℕ → List Line
+rowLines ts = tab (rowAt ts) 0 (taskCount ts)
+
+abbrev pub releaseLines : List ℕ → List Line
+releaseLines rs = tab (releaseAt rs) 0 (releaseCount rs)
+
+unfoldable pub caseLines : Case → List Line
+caseLines c = Procs (c .procs) ∷ Policy (c .policy) ∷ (rowLines (c .table) ++ (End (c .end) ∷ releaseLines (c .trace)))
+
+-- the text of a case is the text of its lines
+pub case-text : (c : Case) → caseText c ≡ textOf (caseLines c)
+unfolding caseText caseLines textOf procsText policyText taskText endText releaseText lineBytes wordOf fieldsIn rowAt releaseAt
+case-text c =
+    let rows = rowLines (c .table) in
+    let releases = releaseLines (c .trace) in
+    ap (λ (t : List ℕ). procsText (c .procs) ++ (policyText (c .policy) ++ t))
+    (ap₂ (λ (a b : List ℕ). a ++ (endText (c .end) ++ b)) (textOf-tab (rowAt (c .table)) 0 (taskCount (c .table))) (textOf-tab (releaseAt (c .trace)) 0 (releaseCount (c .trace)))
+    ∙ sym (textOf-append rows (End (c .end) ∷ releases)))
+
+-- ---- the lines of a case hold the case
+-- task numbers in threes and release numbers in twos
+pub record Whole (c : Case) : Type 0 where
+  pub threes : length (c .table) % taskWidth ≡ 0
+  pub some : 1 ≤ taskCount (c .table)
+  pub twos : length (c .trace) % releaseWidth ≡ 0
+
+pub accepted-whole : (c : Case) → Accepted c → Whole c
+unfolding Accepted caseFault tableFault traceFault
+accepted-whole c e =
+    let k = taskCount (c .table) in
+    let f1 = next-clear (procsFault (c .procs)) _ e in
+    let f2 = next-clear (policyFault (c .policy)) _ (f1 .1) in
+    let f3 = next-clear (tableFault (c .table)) _ (f2 .1) in
+    let f4 = next-clear (tasksFault (c .table)) _ (f3 .1) in
+    let f5 = next-clear (endFault (c .end)) _ (f4 .1) in
+    let f6 = next-clear (traceFault (c .trace)) _ (f5 .1) in
+    let t : (eqb (length (c .table) % 3) 0 && leb 1 k && leb k 32) ≡ true = unless-clear _ 5 0 (omega arith) (f3 .0) in
+    let u : (eqb (length (c .table) % 3) 0 && leb 1 k) ≡ true = and-left _ (leb k 32) t in
+    let r : (eqb (length (c .trace) % 2) 0 && leb (releaseCount (c .trace)) 2000) ≡ true = unless-clear _ 12 0 (omega arith) (f6 .0) in
+    record {
+      threes = eqb-true _ 0 (and-left _ (leb 1 k) u);
+      some = leb-true 1 k (and-right (eqb (length (c .table) % 3) 0) (leb 1 k) u);
+      twos = eqb-true _ 0 (and-left (eqb (length (c .trace) % 2) 0) _ r);
+    }
+
+rows-kind : (ts : List ℕ) → All (Kind 3) (rowLines ts)
+rows-kind ts = kinds-tab 3 3 rowAt rows-list ts 0 (taskCount ts)
+
+releases-kind : (rs : List ℕ) → All (Kind 5) (releaseLines rs)
+releases-kind rs = kinds-tab 5 2 releaseAt releases-list rs 0 (releaseCount rs)
+
+pub lines-hold : (c : Case) → Whole c → withLines noCase (caseLines c) ≡ c
+unfolding withLines withLine caseLines
+lines-hold c w =
+    lines-taken (c .procs) (c .policy) (rowLines (c .table)) (c .end) (releaseLines (c .trace)) (rows-kind (c .table)) (releases-kind (c .trace))
+    ∙ ap₂ (λ ts rs. caseOf (c .procs) (c .policy) ts (c .end) rs)
+    (listed-back 3 3 rowAt rows-list (taskCount (c .table)) (c .table) (omega (arith, w .threes)))
+    (listed-back 5 2 releaseAt releases-list (releaseCount (c .trace)) (c .trace) (omega (arith, w .twos)))
+
+-- and lines in order are the lines of the case that they hold
+pub lines-held : (m p : ℕ) (ls : List Line) → Tail ls → caseLines (withLines (caseOf m p [] 0 []) ls) ≡ Procs m ∷ Policy p ∷ ls
+unfolding caseLines
+lines-held m p ls t =
+    let ts = allListed (t .rows) in
+    let rs = allListed (t .releases) in
+    let k : taskCount ts ≡ length (t .rows) = omega (arith, listed-long 3 3 rowAt rows-list (t .rows) (t .are-rows)) in
+    let n : releaseCount rs ≡ length (t .releases) = omega (arith, listed-long 5 2 releaseAt releases-list (t .releases) (t .are-releases)) in
+    let a : rowLines ts ≡ t .rows = ap (tab (rowAt ts) 0) k ∙ lines-back 3 3 rowAt rows-list (t .rows) (t .are-rows) in
+    let b : releaseLines rs ≡ t .releases = ap (tab (releaseAt rs) 0) n ∙ lines-back 5 2 releaseAt releases-list (t .releases) (t .are-releases) in
+    rw (t .whole)
+    (ap caseLines (lines-taken m p (t .rows) (t .end) (t .releases) (t .are-rows) (t .are-releases))
+    ∙ ap₂ (λ xs ys. Procs m ∷ Policy p ∷ (xs ++ (End (t .end) ∷ ys))) a b)
+
+-- ---- an accepted case
+all-append : (P : Line → Type 0) (ls ms : List Line) → All P ls → All P ms → All P (ls ++ ms)
+unfolding All
+all-append P [] ms a b = b
+all-append P (l ∷ ls) ms a b = (a .0, all-append P ls ms (a .1) b)
+
+all-tab : (P : Line → Type 0) (f : ℕ → Line) (k n : ℕ) → ((i : ℕ) → i < k + n → P (f i)) → All P (tab f k n)
+unfolding All tab
+all-tab P f k zero h = tt
+all-tab P f k (suc n) h = (h k (omega arith), all-tab P f (suc k) n (λ i l. h i (omega arith)))
+
+-- every number of it is below a million
+row-below : (c : Case) → Legal c → (i : ℕ) → i < taskCount (c .table) → Below (10 ^ 6) (rowAt (c .table) i)
+unfolding Below rowAt
+row-below c g i h = let d = g .good i h in (omega (arith, d .small), omega (arith, d .small, d .within, d .fits), omega (arith, d .small, d .within))
+
+release-below : (c : Case) → Legal c → (j : ℕ) → j < releaseCount (c .trace) → Below (10 ^ 6) (releaseAt (c .trace) j)
+unfolding Below releaseAt
+release-below c g j h = (omega (arith, g .before-end j h, g .end-small), omega (arith, g .named j h, g .tasks-few))
+
+pub lines-below : (c : Case) → Legal c → All (Below (10 ^ 6)) (caseLines c)
+unfolding caseLines All Below
+lines-below c g =
+    let rows = all-tab (Below (10 ^ 6)) (rowAt (c .table)) 0 (taskCount (c .table)) (λ i h. row-below c g i (omega arith)) in
+    let releases = all-tab (Below (10 ^ 6)) (releaseAt (c .trace)) 0 (releaseCount (c .trace)) (λ j h. release-below c g j (omega arith)) in
+    (omega (arith, g .procs-few), (g .policy-known, all-append (Below (10 ^ 6)) (rowLines (c .table)) _ rows (omega (arith, g .end-small), releases)))
+
+-- its lines are in order
+lines-body : (c : Case) → Whole c → Body (rowLines (c .table) ++ (End (c .end) ∷ releaseLines (c .trace)))
+unfolding tab
+lines-body c w = go (taskCount (c .table)) (w .some)
+  where
+    go : (n : ℕ) → 1 ≤ n → Body (tab (rowAt (c .table)) 0 n ++ (End (c .end) ∷ releaseLines (c .trace)))
+    go zero h = absurd (omega arith)
+    go (suc n) h = record {
+      task = rowAt (c .table) 0;
+      others = tab (rowAt (c .table)) 1 n ++ (End (c .end) ∷ releaseLines (c .trace));
+      is-task = rows-list .kind (c .table) 0;
+      tail = record {
+        rows = tab (rowAt (c .table)) 1 n;
+        end = c .end;
+        releases = releaseLines (c .trace);
+        are-rows = kinds-tab 3 3 rowAt rows-list (c .table) 1 n;
+        are-releases = releases-kind (c .trace);
+        whole = refl;
+      };
+      whole = refl;
+    }
+
+pub lines-clear : (c : Case) → Whole c → linesFault 0 1 (caseLines c) ≡ noFault
+unfolding caseLines
+lines-clear c w = ordered-clear (c .procs) (c .policy) _ (lines-body c w)
+
+-- 1 and 1, at most 32, 1, and at most 2,000 lines
+lines-few : (c : Case) → Legal c → length (caseLines c) ≤ 2035
+unfolding caseLines
+lines-few c g =
+    let rows = tab-long (rowAt (c .table)) 0 (taskCount (c .table)) in
+    let releases = tab-long (releaseAt (c .trace)) 0 (releaseCount (c .trace)) in
+    omega (arith, length-append (rowLines (c .table)) (End (c .end) ∷ releaseLines (c .trace)), rows, releases, g .tasks-few, g .releases-few)
+
+pub text-fits : (c : Case) → Accepted c → length (caseText c) ≤ maxText
+text-fits c e = let g = legal c e in rw (case-text c) (omega (arith, textOf-long (caseLines c) (lines-below c g), lines-few c g))

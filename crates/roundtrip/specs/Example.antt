@@ -1,0 +1,53 @@
+-- A small text without a policy line, computed: the reader accepts it, and what is written of it is the text with the policy line.
+-- So the laws of the round trip speak of something, and `withPolicy` puts the line where it belongs.
+use mathlib.Core.Path.{_≡_, refl}
+use mathlib.Core.List.{List, [], _∷_, _++_}
+use Prim.Native.Nat.{ℕ}
+use Rattle.rules.specs.Words.{tab}
+use Rattle.rules.specs.Case.{caseOf}
+use Rattle.rules.specs.Refusals.{noFault, orNext, firstOf, procsFault, policyFault, tableFault, taskFault, endFault, traceFault, inOrder, lastBefore, releaseFault, caseFault}
+use Rattle.rules.specs.Text.{same, upTo, past, has, lineOf, afterLine, fieldOf, afterField, allDigits, noLeadingZero, isNumber, worth, numberIn, digitsIn, digitsOf, procsWord, policyWord, taskWord, endWord, releaseWord, edfWord, policyName}
+use Rattle.rules.specs.Reader.{oneNumber, twoNumbers, threeNumbers, wordKind, fieldsSay, lineSays, linesIn, linesOf, mayFollow, mayStop, linesFault, withLine, withLines, caseIn, lengthFault, textFault}
+use Rattle.rules.specs.Writer.{joinedText, moreFields, lineText, procsText, policyText, taskText, endText, releaseText, caseText}
+use Rattle.roundtrip.specs.RoundTrip.{policyGiven, withPolicy}
+
+-- procs 1
+abbrev first-line : List ℕ
+first-line = procsWord ++ (9 ∷ 49 ∷ 10 ∷ [])
+
+-- policy edf
+abbrev policy-line : List ℕ
+policy-line = policyWord ++ (9 ∷ (edfWord ++ (10 ∷ [])))
+
+-- task 5 1 5, end 5, release 0 1
+abbrev other-lines : List ℕ
+other-lines = taskWord ++ (9 ∷ 53 ∷ 9 ∷ 49 ∷ 9 ∷ 53 ∷ 10 ∷ (endWord ++ (9 ∷ 53 ∷ 10 ∷ (releaseWord ++ (9 ∷ 48 ∷ 9 ∷ 49 ∷ 10 ∷ [])))))
+
+abbrev pub short-text : List ℕ
+short-text = first-line ++ other-lines
+
+abbrev pub full-text : List ℕ
+full-text = first-line ++ (policy-line ++ other-lines)
+
+pub short-accepted : textFault short-text ≡ noFault
+unfolding same upTo past has lineOf afterLine fieldOf afterField allDigits noLeadingZero isNumber worth numberIn oneNumber twoNumbers threeNumbers wordKind
+    fieldsSay lineSays linesIn linesOf mayFollow mayStop linesFault withLine withLines caseIn lengthFault textFault orNext firstOf procsFault policyFault
+    tableFault taskFault endFault traceFault inOrder lastBefore releaseFault caseFault
+short-accepted = refl
+
+pub short-case : caseIn short-text ≡ caseOf 1 0 (5 ∷ 1 ∷ 5 ∷ []) 5 (0 ∷ 1 ∷ [])
+unfolding same upTo past has lineOf afterLine fieldOf afterField allDigits noLeadingZero isNumber worth numberIn oneNumber twoNumbers threeNumbers wordKind
+    fieldsSay lineSays linesIn linesOf withLine withLines caseIn
+short-case = refl
+
+pub short-written : caseText (caseOf 1 0 (5 ∷ 1 ∷ 5 ∷ []) 5 (0 ∷ 1 ∷ [])) ≡ full-text
+unfolding tab digitsIn digitsOf policyName joinedText moreFields lineText procsText policyText taskText endText releaseText caseText
+short-written = refl
+
+pub policy-put-in : withPolicy short-text ≡ full-text
+unfolding same upTo past lineOf afterLine fieldOf wordKind policyName moreFields lineText policyText policyGiven withPolicy
+policy-put-in = refl
+
+pub policy-kept : withPolicy full-text ≡ full-text
+unfolding same upTo past lineOf afterLine fieldOf wordKind policyGiven withPolicy
+policy-kept = refl

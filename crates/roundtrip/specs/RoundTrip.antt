@@ -1,0 +1,97 @@
+-- The round trip of the case text (document 01, "The case text"): reading what the writer wrote gives the same case; writing what was
+-- read gives the same text, but for the policy line where it was absent.
+use mathlib.Core.Path.{_≡_, sym, ap, _∙_}
+use mathlib.Core.Bool.{Bool, true}
+use mathlib.Core.Logic.{_⊎_, inl, inr}
+use mathlib.Core.List.{List, [], _∷_, _++_}
+use Prim.Native.Nat.{ℕ, _+_, _^_}
+use native.Mathlib.Omega.{arith}
+use lib.Dec.{eqb}
+use lib.ListN.{length}
+use borrow.Author.Tests.{le-leb}
+use Rattle.rules.specs.Words.{pick}
+use Rattle.rules.specs.declared.Line.{Line}
+use Rattle.rules.specs.declared.Line.the-variants.{Procs, Policy}
+use Rattle.rules.specs.Limits.{maxText}
+use Rattle.rules.specs.Case.{Case, caseOf}
+use Rattle.rules.specs.Refusals.{noFault, orNext, caseFault, Accepted}
+use Rattle.rules.specs.Text.{newlineByte, lineOf, afterLine, fieldOf}
+use Rattle.rules.specs.Reader.{wordKind, linesOf, kindOf, linesFault, policyWhenAbsent, noCase, withLine, withLines, caseIn, lengthFault, textFault}
+use Rattle.rules.specs.Writer.{policyText, caseText}
+use Rattle.bridge.specs.Legal.{next-clear, legal}
+use Rattle.roundtrip.specs.LineTrip.{wordOf, fieldsIn, lineBytes, body-kind}
+use Rattle.roundtrip.specs.Lines.{textOf, textOf-cons, lineOf-text, afterLine-text, lines-written, lines-read}
+use Rattle.roundtrip.specs.Orders.{all-said, body-tail, Ordered, ordered-of}
+use Rattle.roundtrip.specs.CaseLines.{caseLines, case-text, accepted-whole, lines-hold, lines-held, lines-below, lines-clear, text-fits}
+
+-- ---- reading what the writer wrote
+-- the lines of what is written of an accepted case
+written-lines : (c : Case) → Accepted c → linesOf (caseText c) ≡ caseLines c
+written-lines c e = ap linesOf (case-text c) ∙ lines-written (10 ^ 6) (caseLines c) (omega arith) (lines-below c (legal c e))
+
+-- the same case
+pub case-written : (c : Case) → Accepted c → caseIn (caseText c) ≡ c
+unfolding caseIn
+case-written c e = ap (withLines noCase) (written-lines c e) ∙ lines-hold c (accepted-whole c e)
+
+-- the reader finds no fault in it
+pub no-fault-written : (c : Case) → Accepted c → textFault (caseText c) ≡ noFault
+unfolding textFault lengthFault orNext Accepted
+no-fault-written c e =
+    rw (le-leb (length (caseText c)) maxText (text-fits c e), written-lines c e, lines-clear c (accepted-whole c e), case-written c e, e)
+
+-- ---- writing what was read
+-- whether the second line of a text is a policy line
+unfoldable pub policyGiven : List ℕ → Bool
+policyGiven s = eqb (wordKind (fieldOf (lineOf (afterLine s)))) 2
+
+-- a text, with the policy line put in after its first line where it was absent
+unfoldable pub withPolicy : List ℕ → List ℕ
+withPolicy s = pick (policyGiven s) s (lineOf s ++ (newlineByte ∷ (policyText policyWhenAbsent ++ afterLine s)))
+
+given-second : (k l : Line) (ls : List Line) → policyGiven (textOf (k ∷ l ∷ ls)) ≡ eqb (kindOf l) 2
+unfolding policyGiven
+given-second k l ls = rw (afterLine-text k (l ∷ ls), lineOf-text l ls, body-kind l)
+
+policy-put-in : (k l : Line) (ls : List Line) → kindOf l ≡ 3 → withPolicy (textOf (k ∷ l ∷ ls)) ≡ textOf (k ∷ Policy policyWhenAbsent ∷ l ∷ ls)
+unfolding withPolicy textOf policyText lineBytes wordOf fieldsIn
+policy-put-in k l ls e =
+    rw (given-second k l ls, e, lineOf-text k (l ∷ ls), afterLine-text k (l ∷ ls)) (sym (textOf-cons k (Policy policyWhenAbsent ∷ l ∷ ls)))
+
+policy-there : (k : Line) (p : ℕ) (ls : List Line) → withPolicy (textOf (k ∷ Policy p ∷ ls)) ≡ textOf (k ∷ Policy p ∷ ls)
+unfolding withPolicy
+policy-there k p ls = rw (given-second k (Policy p) ls)
+
+-- of lines in order, the text of the case that they hold
+text-ordered : (ls : List Line) → Ordered ls → caseText (withLines noCase ls) ≡ withPolicy (textOf ls)
+unfolding withLines withLine
+text-ordered ls o = go (o .whole)
+  where
+    held : (p : ℕ) → caseText (withLines (caseOf (o .procs) p [] 0 []) (o .after)) ≡ textOf (Procs (o .procs) ∷ Policy p ∷ o .after)
+    held p = case-text _ ∙ ap textOf (lines-held (o .procs) p (o .after) (body-tail (o .after) (o .body)))
+
+    go : ((p : ℕ) × (ls ≡ Procs (o .procs) ∷ Policy p ∷ o .after)) ⊎ (ls ≡ Procs (o .procs) ∷ o .after) → caseText (withLines noCase ls) ≡ withPolicy (textOf ls)
+    go (inl (p, e)) = rw e (held p ∙ sym (policy-there (Procs (o .procs)) p (o .after)))
+    go (inr e) =
+        rw e (held policyWhenAbsent ∙ rw (o .body .whole) (sym (policy-put-in (Procs (o .procs)) (o .body .task) (o .body .others) (o .body .is-task))))
+
+-- a text in which the reader finds no fault: no line is at fault, and its case is accepted
+lines-no-fault : (s : List ℕ) → textFault s .number ≡ 0 → linesFault 0 1 (linesOf s) .number ≡ 0
+unfolding textFault
+lines-no-fault s h = next-clear (linesFault 0 1 (linesOf s)) _ (next-clear (lengthFault s) _ h .1) .0
+
+pub case-accepted : (s : List ℕ) → textFault s .number ≡ 0 → Accepted (caseIn s)
+unfolding textFault Accepted
+case-accepted s h = next-clear (caseFault (caseIn s)) _ (next-clear (linesFault 0 1 (linesOf s)) _ (next-clear (lengthFault s) _ h .1) .1) .0
+
+-- the same text, but for the policy line where it was absent
+pub text-read : (s : List ℕ) → textFault s .number ≡ 0 → caseText (caseIn s) ≡ withPolicy s
+unfolding caseIn
+text-read s h =
+    let e = lines-no-fault s h in
+    text-ordered (linesOf s) (ordered-of (linesOf s) e) ∙ ap withPolicy (lines-read s (all-said 0 1 (linesOf s) e))
+
+-- where the policy line was there, just the same text
+pub text-read-given : (s : List ℕ) → textFault s .number ≡ 0 → policyGiven s ≡ true → caseText (caseIn s) ≡ s
+unfolding withPolicy
+text-read-given s h g = text-read s h ∙ rw g
