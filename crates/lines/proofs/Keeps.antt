@@ -10,7 +10,7 @@ use Rattle.rules.specs.Reader.{noCase, withLine, withLines, caseIn, linesOf}
 use Rattle.rules.specs.declared.Line.{Line}
 use Rattle.rules.specs.declared.Line.the-variants.{Bad, Procs, Policy, Row, End, Release}
 use Rattle.lines.specs.declared.Head.{Head}
-use Rattle.lines.specs.Held.{tableRoom, traceRoom, clip, headOf, headWith, rowNumbers, releaseNumbers, keptCase}
+use Rattle.lines.specs.Held.{tableRoom, traceRoom, clip, noHead, headOf, headWith, rowNumbers, releaseNumbers, keptCase}
 
 take-clipped : (n : ℕ) (xs ys : List ℕ) → take n (take n xs ++ ys) ≡ take n (xs ++ ys)
 take-clipped zero xs ys = refl
@@ -59,7 +59,7 @@ kept-line h t r table trace l ls t′ r′ table′ trace′ p q =
     ap (λ (d : Case). clip (withLines d ls)) (line-kept c l ∙ sym (ap₂ (with-head (headWith h l)) p q))
 
 -- no line read
-pub kept-none : (s table trace : List ℕ) → clip (caseIn s) ≡ clip (withLines (keptCase (headOf 0 0 0) 0 table 0 trace) (linesOf s))
+pub kept-none : (s table trace : List ℕ) → clip (caseIn s) ≡ clip (withLines (keptCase noHead 0 table 0 trace) (linesOf s))
 unfolding caseIn
 kept-none s table trace = refl
 

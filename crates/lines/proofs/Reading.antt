@@ -13,7 +13,7 @@ use Rattle.rules.specs.declared.Fault.{Fault}
 use Rattle.rules.specs.declared.Line.{Line}
 use Rattle.lines.specs.declared.Head.{Head}
 use Rattle.lines.specs.declared.Gathered.{Gathered}
-use Rattle.lines.specs.Held.{tableRoom, traceRoom, clip, lineFault, nextSays, headOf, headWith, rowNumbers, releaseNumbers, Whole, Added, keptCase, Gathers}
+use Rattle.lines.specs.Held.{tableRoom, traceRoom, clip, lineFault, nextSays, noHead, headWith, rowNumbers, releaseNumbers, Whole, Added, keptCase, Gathers}
 use Rattle.lines.proofs.Unread.{lines-none, lines-next}
 use Rattle.lines.proofs.Faults.{fault-here, fault-later, fault-stop}
 use Rattle.lines.proofs.Keeps.{kept-line, kept-none, kept-all}
@@ -27,8 +27,9 @@ pub record Reading (s : List ℕ) (h : Head) (t r b n at : ℕ) (table trace : L
   pub tasks : Whole tableRoom taskWidth t table
   pub releases : Whole traceRoom releaseWidth r trace
 
-pub reading-none : (s table trace : List ℕ) → length table ≡ tableRoom → length trace ≡ traceRoom → Reading s (headOf 0 0 0) 0 0 0 1 0 table trace
-reading-none s table trace p q =
+pub reading-none : (s : List ℕ) (h : Head) (table trace : List ℕ) → h ≡ noHead → length table ≡ tableRoom → length trace ≡ traceRoom → Reading s h 0 0 0 1 0 table trace
+reading-none s h table trace e p q =
+    rw e
     record {
       within = omega arith;
       counted = omega arith;

@@ -11,7 +11,7 @@ use Rattle.rules.specs.Limits.{taskWidth, releaseWidth}
 use Rattle.rules.specs.Case.{Case, caseOf}
 use Rattle.rules.specs.Refusals.{unless, first}
 use Rattle.rules.specs.Text.{newlineByte, has, lineOf}
-use Rattle.rules.specs.Reader.{lineSays, linesOf, linesFault, mayFollow, caseIn}
+use Rattle.rules.specs.Reader.{lineSays, linesOf, linesFault, mayFollow, policyWhenAbsent, caseIn}
 use Rattle.rules.specs.declared.Fault.{Fault}
 use Rattle.rules.specs.declared.Line.{Line}
 use Rattle.rules.specs.declared.Line.the-variants.{Bad, Procs, Policy, Row, End, Release}
@@ -40,6 +40,10 @@ nextSays s = pick (has newlineByte s) (lineSays (lineOf s)) Bad
 
 abbrev pub headOf : ℕ → ℕ → ℕ → Head
 headOf m p e = record { procs = m; policy = p; end = e }
+
+-- the head before the first line
+abbrev pub noHead : Head
+noHead = headOf 0 policyWhenAbsent 0
 
 -- the head with what one more line says
 abbrev pub headWith : Head → Line → Head

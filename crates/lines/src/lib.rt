@@ -5,7 +5,7 @@ ghost use lib.ListN.{length, drop};
 ghost use Rattle.rules.specs.Text.{afterLine};
 ghost use Rattle.rules.specs.Refusals.{unless};
 ghost use Rattle.rules.specs.Reader.{kindOf, mayStop};
-ghost use Rattle.lines.specs.Held.{tableRoom, traceRoom, lineFault, nextSays, headWith, rowNumbers, releaseNumbers, Whole, Added, Gathers};
+ghost use Rattle.lines.specs.Held.{tableRoom, traceRoom, lineFault, nextSays, noHead, headWith, rowNumbers, releaseNumbers, Whole, Added, Gathers};
 use rules::Fault;
 use rules::Line;
 
@@ -91,6 +91,17 @@ pub fn stop_fault(before: u32, n: u32) -> Fault
     table::fault(3, n)
 }
 
+// The head before the first line; without a policy line the policy is EDF.
+pub fn no_head() -> Head
+    ensures { λ r. ⌜ r ≡ noHead ⌝ }
+{
+    Head {
+        procs: 0,
+        policy: 0,
+        end: 0,
+    }
+}
+
 // The head with what one more line says.
 pub fn head_with(h: Head, l: Line) -> Head
     ensures { λ r. ⌜ r ≡ headWith h l ⌝ }
@@ -164,11 +175,7 @@ pub fn gather(text: &[u8], table: &mut [u32], trace: &mut [u32]) -> Gathered
     requires { ⌜ (length (now text) ≤ 60000) × (length (now table) ≡ tableRoom) × (length (now trace) ≡ traceRoom) ⌝ }
     ensures { λ r. ⌜ Gathers (now (text .entry)) r (now (table .exit)) (now (trace .exit)) ⌝ }
 {
-    let mut head = Head {
-        procs: 0,
-        policy: 0,
-        end: 0,
-    };
+    let mut head = no_head();
     let mut tasks: usize = 0;
     let mut releases: usize = 0;
     let mut before: u32 = 0;

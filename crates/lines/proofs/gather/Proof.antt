@@ -16,8 +16,11 @@ abbrev μ-loop : tie.MeasureT-loop
 μ-loop text table₀ trace₀ head₀ tasks₀ releases₀ before₀ n₀ at₀ table trace head tasks releases before n at =
     length text - at
 
+no-head-requires : tie.Need-no-head-requires Inv-loop μ-loop
+no-head-requires c κs = search needs
+
 loop-holds : tie.Need-loop-holds Inv-loop μ-loop
-loop-holds c = reading-none _ _ _ (c .before .before .before .pre .1) (c .before .before .before .pre .2)
+loop-holds c = reading-none _ _ _ _ (c .no-head .ensures) (c .before .before .before .before .pre .1) (c .before .before .before .before .pre .2)
 
 next-line-requires : tie.Need-next-line-requires Inv-loop μ-loop
 next-line-requires c κs = search needs
@@ -29,10 +32,10 @@ line-fault-requires : tie.Need-line-fault-requires Inv-loop μ-loop
 line-fault-requires c κs = search needs
 
 same-length : tie.Need-same-length Inv-loop μ-loop
-same-length c = c .before .before .before .before .before .loop .inv .tasks .long ∙ sym (c .before .before .before .before .before .before .before .before .before .pre .1)
+same-length c = c .before .before .before .before .before .loop .inv .tasks .long ∙ sym (c .before .before .before .before .before .before .before .before .before .before .pre .1)
 
 same-length-2 : tie.Need-same-length-2 Inv-loop μ-loop
-same-length-2 c = c .before .before .before .before .before .loop .inv .releases .long ∙ sym (c .before .before .before .before .before .before .before .before .before .pre .2)
+same-length-2 c = c .before .before .before .before .before .loop .inv .releases .long ∙ sym (c .before .before .before .before .before .before .before .before .before .before .pre .2)
 
 returns : tie.Need-returns Inv-loop μ-loop
 returns c = reading-stop _ _ _ _ _ _ _ _ _ (c .before .before .before .before .before .loop .inv) _ _ _ (c .before .before .before .before .loop-test .taken) (c .before .before .before .next-line .ensures .0) (c .before .before .kind-of .ensures) (c .before .line-fault .ensures) (c .if1 .taken)
@@ -47,7 +50,7 @@ keep-release-requires : tie.Need-keep-release-requires Inv-loop μ-loop
 keep-release-requires c κs = c .before .before .before .before .before .before .before .before .before .before .before .loop .inv .releases
 
 add-n : tie.Need-add-n Inv-loop μ-loop
-add-n c = omega (arith, c .before .before .before .before .before .before .before .before .before .before .before .before .before .before .loop .inv .counted, c .before .before .before .before .before .before .before .before .before .before .before .before .before .before .loop .inv .within, c .before .before .before .before .before .before .before .before .before .before .before .before .before .before .before .before .before .before .pre .0)
+add-n c = omega (arith, c .before .before .before .before .before .before .before .before .before .before .before .before .before .before .loop .inv .counted, c .before .before .before .before .before .before .before .before .before .before .before .before .before .before .loop .inv .within, c .before .before .before .before .before .before .before .before .before .before .before .before .before .before .before .before .before .before .before .pre .0)
 
 loop-less : tie.Need-loop-less Inv-loop μ-loop
 loop-less c = omega (arith, c .before .before .before .before .before .before .before .before .before .before .before .before .next-line .ensures .2, c .before .before .before .before .before .before .before .before .before .before .before .before .next-line .ensures .3)
@@ -61,10 +64,10 @@ stop-fault-requires : tie.Need-stop-fault-requires Inv-loop μ-loop
 stop-fault-requires c κs = search needs
 
 same-length-3 : tie.Need-same-length-3 Inv-loop μ-loop
-same-length-3 c = c .before .before .loop .inv .tasks .long ∙ sym (c .before .before .before .before .before .before .pre .1)
+same-length-3 c = c .before .before .loop .inv .tasks .long ∙ sym (c .before .before .before .before .before .before .before .pre .1)
 
 same-length-4 : tie.Need-same-length-4 Inv-loop μ-loop
-same-length-4 c = c .before .before .loop .inv .releases .long ∙ sym (c .before .before .before .before .before .before .pre .2)
+same-length-4 c = c .before .before .loop .inv .releases .long ∙ sym (c .before .before .before .before .before .before .before .pre .2)
 
 returns-2 : tie.Need-returns-2 Inv-loop μ-loop
 returns-2 c = reading-all _ _ _ _ _ _ _ _ _ (c .before .before .loop .inv) _ (c .before .loop-test .left) (c .stop-fault .ensures)
@@ -75,6 +78,7 @@ gather-spec =
     (tie.spec
     Inv-loop
     μ-loop
+    no-head-requires
     loop-holds
     next-line-requires
     kind-of-requires
