@@ -1,2 +1,3 @@
 pub mod Clipped
 pub mod Answered
+pub mod Copies

@@ -1,53 +1,48 @@
+-- `reader::put_numbers` meets its contract.
+use native.Mathlib.Omega.{arith}
+use Prim.Native.Nat.{_-_}
+use lib.ListN.{length}
+use borrow.Author.Needs.{needs}
+use mathlib.Core.Path.{sym, _∙_}
+use Rattle.reader.proofs.Copies.{Copying, copying-none, copying-on, copying-all}
 use Rattle.reader.proofs.put_numbers.Statement.{statement}
 use Rattle.reader.proofs.put_numbers.Tie as tie
-use Rattle.reader.proofs.put_numbers.Reads as reads
-use Rattle.reader.proofs.put_numbers.Lts as lts
 
 abbrev Inv-loop : tie.InvT-loop
-Inv-loop room₀ numbers i₀ room i = ?
+Inv-loop room₀ numbers i₀ room i = Copying room₀ numbers room i
 
 abbrev μ-loop : tie.MeasureT-loop
-μ-loop room₀ numbers i₀ room i = ?
+μ-loop room₀ numbers i₀ room i = length numbers - i
 
--- src/lib.rt:34:5
 loop-holds : tie.Need-loop-holds Inv-loop μ-loop
-loop-holds c = ?
+loop-holds c = copying-none _ _ (c .pre)
 
--- src/lib.rt:35:19
 mul-room : tie.Need-mul-room Inv-loop μ-loop
-mul-room c = ?
+mul-room c = search needs
 
--- src/lib.rt:35:19
 shared-slice-read-room : tie.Need-shared-slice-read-room Inv-loop μ-loop
-shared-slice-read-room c = ?
+shared-slice-read-room c = omega arith
 
--- src/lib.rt:35:9
 mul-room-2 : tie.Need-mul-room-2 Inv-loop μ-loop
-mul-room-2 c = ?
+mul-room-2 c = search needs
 
--- src/lib.rt:35:9
 slice-write-room : tie.Need-slice-write-room Inv-loop μ-loop
-slice-write-room c = ?
+slice-write-room c = omega (arith, c .before .before .loop .inv .long, c .before .before .before .pre)
 
--- src/lib.rt:36:9
 add-i : tie.Need-add-i Inv-loop μ-loop
-add-i c = ?
+add-i c = omega arith
 
--- src/lib.rt:34:5
 loop-less : tie.Need-loop-less Inv-loop μ-loop
-loop-less c = ?
+loop-less c = omega arith
 
--- src/lib.rt:34:5
 loop-again : tie.Need-loop-again Inv-loop μ-loop
-loop-again c = ?
+loop-again c = copying-on _ _ (c .before .before .before .pre) _ _ (c .before .loop-test .taken) (c .before .before .loop .inv)
 
--- src/lib.rt:29:1
 same-length : tie.Need-same-length Inv-loop μ-loop
-same-length c = ?
+same-length c = c .before .loop .inv .long
 
--- src/lib.rt:29:1
 returns : tie.Need-returns Inv-loop μ-loop
-returns c = ?
+returns c = copying-all _ _ (c .before .before .pre) _ _ (c .loop-test .left) (c .before .loop .inv)
 
 pub put-numbers-spec : {M : Type 1} → statement M
 put-numbers-spec =
