@@ -1,3 +1,4 @@
 pub mod Clipped
 pub mod Answered
 pub mod Copies
+pub mod Kept

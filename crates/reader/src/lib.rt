@@ -3,7 +3,7 @@ ghost use mathlib.Core.Path.{_≡_};
 ghost use mathlib.Core.List.{_++_};
 ghost use Prim.Native.Nat.{_≤_};
 ghost use lib.ListN.{length, drop};
-ghost use Rattle.rules.specs.Answers.{takenAs};
+ghost use Rattle.rules.specs.Answers.{refusal, takenAs};
 ghost use Rattle.rules.specs.Reader.{readAnswer, readTasks, readReleases};
 ghost use Rattle.reader.specs.Start.{startFault};
 use rules::Fault;
@@ -37,6 +37,16 @@ pub fn put_numbers(room: &mut [u32], numbers: &[u32])
     }
 }
 
+// A refusal as an answer.
+pub fn refused(f: Fault) -> Taken
+    ensures { λ r. ⌜ takenAs r ≡ refusal (f .number) (f .place) ⌝ }
+{
+    Taken::Refused {
+        number: f.number,
+        place: f.place,
+    }
+}
+
 // The reader: the case of a text, its numbers put into the lent rooms; on a refusal nothing is put there.
 pub fn read(text: &[u8], tasks: &mut [u32], releases: &mut [u32]) -> Taken
     ensures { λ r. ⌜ takenAs r ≡ readAnswer (now (text .entry)) (now (tasks .entry)) (now (releases .entry)) ⌝ }
@@ -46,10 +56,7 @@ pub fn read(text: &[u8], tasks: &mut [u32], releases: &mut [u32]) -> Taken
     let a = start_fault(text.len(), tasks.len(), releases.len());
     let ka = a.number;
     if ka != 0 {
-        return Taken::Refused {
-            number: ka,
-            place: a.place,
-        };
+        return refused(a);
     }
     let mut table: [u32; 99] = [0; 99];
     let mut trace: [u32; 4002] = [0; 4002];
@@ -57,10 +64,7 @@ pub fn read(text: &[u8], tasks: &mut [u32], releases: &mut [u32]) -> Taken
     let b = g.fault;
     let kb = b.number;
     if kb != 0 {
-        return Taken::Refused {
-            number: kb,
-            place: b.place,
-        };
+        return refused(b);
     }
     let h = g.head;
     let t = g.tasks;
@@ -68,10 +72,7 @@ pub fn read(text: &[u8], tasks: &mut [u32], releases: &mut [u32]) -> Taken
     let d = table::case_fault(h.procs, h.policy, &table[0..t], h.end, &trace[0..r]);
     let kd = d.number;
     if kd != 0 {
-        return Taken::Refused {
-            number: kd,
-            place: d.place,
-        };
+        return refused(d);
     }
     put_numbers(tasks, &table[0..t]);
     put_numbers(releases, &trace[0..r]);
