@@ -1,0 +1,77 @@
+-- Laws of `linesFault`: what is at fault with the next line is the answer, and else what is at fault with those after it.
+use mathlib.Core.Path.{_≡_, refl, sym, ap, _∙_}
+use mathlib.Core.Bool.{Bool, true, false, not}
+use mathlib.Core.List.{List, [], _∷_}
+use Prim.Native.Nat.{ℕ, suc, _<_}
+use native.Mathlib.Omega.{arith}
+use lib.Dec.{eqb}
+use borrow.Author.Tests.{eqb-true, ne-eqb}
+use Rattle.rules.specs.Words.{pick}
+use Rattle.rules.specs.Refusals.{faultOf, noFault, unless, orNext}
+use Rattle.rules.specs.Reader.{kindOf, mayFollow, mayStop, linesFault}
+use Rattle.rules.specs.declared.Fault.{Fault}
+use Rattle.rules.specs.declared.Line.{Line}
+use Rattle.bridge.specs.Firsts.{next-none}
+use Rattle.bridge.specs.Legal.{next-clear}
+use Rattle.lines.specs.Held.{lineFault}
+
+-- nothing follows a fault
+next-last : (f : Fault) → (f .number ≡ 0 → f ≡ noFault) → orNext f noFault ≡ f
+unfolding orNext
+next-last f h = go (eqb (f .number) 0) refl
+  where
+    go : (b : Bool) → eqb (f .number) 0 ≡ b → pick b noFault f ≡ f
+    go true e = sym (h (eqb-true _ _ e))
+    go false e = refl
+
+unless-none : (b : Bool) (n p : ℕ) → 0 < n → unless b n p .number ≡ 0 → unless b n p ≡ noFault
+unless-none true n p h e = refl
+unless-none false n p h e = absurd (omega arith)
+
+-- where no line is at fault the place is 0
+lines-clear : (b n : ℕ) (ls : List Line) → linesFault b n ls .number ≡ 0 → linesFault b n ls ≡ noFault
+unfolding linesFault
+lines-clear b n [] e = unless-none (mayStop b) 3 n (omega arith) e
+lines-clear b n (l ∷ ls) e =
+    let f = next-clear (unless (not (eqb (kindOf l) 0)) 2 n) _ e in
+    let g = next-clear (unless (mayFollow b (kindOf l)) 3 n) _ (f .1) in
+    let r = next-clear (linesFault (kindOf l) (suc n) ls) noFault (g .1) in
+    next-none _ _ (f .0) ∙ next-none _ _ (g .0) ∙ next-none _ _ (r .0)
+
+-- of two tests that find something, what follows them is not asked
+two-hit : (a b r : Fault) → (orNext a (orNext b noFault) .number ≡ 0 → ⊥) → orNext a (orNext b noFault) ≡ orNext a (orNext b r)
+unfolding orNext
+two-hit a b r h = go (eqb (a .number) 0) (eqb (b .number) 0) h
+  where
+    go : (x y : Bool) → (pick x (pick y noFault b) a .number ≡ 0 → ⊥) → pick x (pick y noFault b) a ≡ pick x (pick y r b) a
+    go true true k = absurd (k refl)
+    go true false k = refl
+    go false y k = refl
+
+pub fault-here : (b n : ℕ) (l : Line) (ls : List Line) → (lineFault b (kindOf l) n .number ≡ 0 → ⊥) → lineFault b (kindOf l) n ≡ linesFault b n (l ∷ ls)
+unfolding lineFault linesFault
+fault-here b n l ls h = two-hit _ _ _ h
+
+pub fault-later : (b n : ℕ) (l : Line) (ls : List Line) → lineFault b (kindOf l) n .number ≡ 0 → linesFault b n (l ∷ ls) ≡ linesFault (kindOf l) (suc n) ls
+unfolding lineFault linesFault
+fault-later b n l ls e =
+    let f = next-clear (unless (not (eqb (kindOf l) 0)) 2 n) _ e in
+    let g = next-clear (unless (mayFollow b (kindOf l)) 3 n) noFault (f .1) in
+    next-none _ _ (f .0) ∙ next-none _ _ (g .0) ∙ next-last _ (lines-clear (kindOf l) (suc n) ls)
+
+pub fault-stop : (b n : ℕ) → linesFault b n [] ≡ unless (mayStop b) 3 n
+unfolding linesFault
+fault-stop b n = refl
+
+-- ---- what is at fault with one line
+pub line-bad : (b k n : ℕ) → k ≡ 0 → faultOf 2 n ≡ lineFault b k n
+unfolding lineFault orNext
+line-bad b k n e = rw e
+
+pub line-off : (b k n : ℕ) → (k ≡ 0 → ⊥) → mayFollow b k ≡ false → faultOf 3 n ≡ lineFault b k n
+unfolding lineFault orNext
+line-off b k n h e = rw (ne-eqb k 0 h, e)
+
+pub line-stands : (b k n : ℕ) → (k ≡ 0 → ⊥) → mayFollow b k ≡ true → noFault ≡ lineFault b k n
+unfolding lineFault orNext
+line-stands b k n h e = rw (ne-eqb k 0 h, e)

@@ -1,0 +1,5 @@
+pub mod Unread
+pub mod Faults
+pub mod Keeps
+pub mod Stores
+pub mod Reading

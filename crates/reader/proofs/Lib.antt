@@ -1,0 +1,4 @@
+pub mod Clipped
+pub mod Answered
+pub mod Copies
+pub mod Kept

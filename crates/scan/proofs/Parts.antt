@@ -1,0 +1,103 @@
+-- Laws of what stands up to the first of a byte and past it: `upTo`, `past` and `has`.
+use mathlib.Core.Path.{_≡_, refl, sym, ap, _∙_}
+use mathlib.Core.Bool.{Bool, true, false}
+use mathlib.Core.List.{List, [], _∷_}
+use Prim.Native.Nat.{ℕ, suc, _+_, _-_, _≤_, _<_, zero-le, suc-le-suc}
+use native.Mathlib.Numerals.{add-one}
+use native.Mathlib.Nat.{add-sub-cancel-left}
+use native.Mathlib.Omega.{arith}
+use lib.Dec.{eqb}
+use lib.ListN.{length, take, drop, getD, length-drop, drop-of-length-le}
+use lib.Seq.{drop-cons, take-all}
+use borrow.Author.Tests.{eq-eqb, ne-eqb}
+use Rattle.rules.specs.Words.{pick}
+use Rattle.rules.specs.Text.{upTo, past, has}
+
+-- x stands at i
+pub upTo-hit : (s : List ℕ) (i x : ℕ) → i < length s → getD s i 0 ≡ x → upTo x (drop i s) ≡ []
+unfolding upTo
+upTo-hit s i x h e = rw (drop-cons s i 0 h, eq-eqb _ _ e)
+
+-- another byte stands at i
+pub upTo-miss : (s : List ℕ) (i x : ℕ) → i < length s → (getD s i 0 ≡ x → ⊥) → upTo x (drop i s) ≡ getD s i 0 ∷ upTo x (drop (i + 1) s)
+unfolding upTo
+upTo-miss s i x h e = rw (add-one, drop-cons s i 0 h, ne-eqb _ _ e)
+
+-- no byte is left
+pub upTo-none : (x : ℕ) → upTo x [] ≡ []
+unfolding upTo
+upTo-none x = refl
+
+take-pick : (t : Bool) (b : ℕ) (u s : List ℕ) → take (length u) s ≡ u → take (length (pick t [] (b ∷ u))) (b ∷ s) ≡ pick t [] (b ∷ u)
+take-pick true b u s h = refl
+take-pick false b u s h = ap (λ (l : List ℕ). b ∷ l) h
+
+-- the part as long as what stands before the first x is what stands before it
+take-upTo : (x : ℕ) (s : List ℕ) → take (length (upTo x s)) s ≡ upTo x s
+unfolding upTo
+take-upTo x [] = refl
+take-upTo x (b ∷ s) = take-pick (eqb b x) b (upTo x s) s (take-upTo x s)
+
+le-pick : (t : Bool) (b : ℕ) (u s : List ℕ) → length u ≤ length s → length (pick t [] (b ∷ u)) ≤ length (b ∷ s)
+le-pick true b u s h = zero-le
+le-pick false b u s h = suc-le-suc h
+
+pub upTo-le : (x : ℕ) (s : List ℕ) → length (upTo x s) ≤ length s
+unfolding upTo
+upTo-le x [] = zero-le
+upTo-le x (b ∷ s) = le-pick (eqb b x) b (upTo x s) s (upTo-le x s)
+
+-- the part from `from` to the end that `seek` finds
+pub part-upTo : (x from e : ℕ) (s : List ℕ) → e ≡ from + length (upTo x (drop from s)) → take (e - from) (drop from s) ≡ upTo x (drop from s)
+part-upTo x from e s h = rw (h, add-sub-cancel-left) (take-upTo x (drop from s))
+
+past-pick : (t : Bool) (b : ℕ) (u v s : List ℕ) → (length u < length s → drop (suc (length u)) s ≡ v) → length (pick t [] (b ∷ u)) < length (b ∷ s) → drop (suc (length (pick t [] (b ∷ u)))) (b ∷ s) ≡ pick t s v
+past-pick true b u v s h l = refl
+past-pick false b u v s h l = h (omega arith)
+
+-- past the first x, where there is one
+pub drop-past : (x : ℕ) (s : List ℕ) → length (upTo x s) < length s → drop (suc (length (upTo x s))) s ≡ past x s
+unfolding upTo past
+drop-past x [] h = refl
+drop-past x (b ∷ s) h = past-pick (eqb b x) b (upTo x s) (past x s) s (drop-past x s) h
+
+none-pick : (t : Bool) (b : ℕ) (u v s : List ℕ) → (length s ≤ length u → v ≡ []) → length (b ∷ s) ≤ length (pick t [] (b ∷ u)) → pick t s v ≡ []
+none-pick true b u v s h l = absurd (omega arith)
+none-pick false b u v s h l = h (omega arith)
+
+-- nothing stands past it, where there is none
+pub none-past : (x : ℕ) (s : List ℕ) → length s ≤ length (upTo x s) → past x s ≡ []
+unfolding upTo past
+none-past x [] h = refl
+none-past x (b ∷ s) h = none-pick (eqb b x) b (upTo x s) (past x s) s (none-past x s) h
+
+has-pick : (t : Bool) (b : ℕ) (u s : List ℕ) (v : Bool) → (length u < length s → v ≡ true) → length (pick t [] (b ∷ u)) < length (b ∷ s) → pick t true v ≡ true
+has-pick true b u s v h l = refl
+has-pick false b u s v h l = h (omega arith)
+
+-- x stands in s where something is left after what stands before it
+pub has-some : (x : ℕ) (s : List ℕ) → length (upTo x s) < length s → has x s ≡ true
+unfolding upTo has
+has-some x [] h = absurd (omega arith)
+has-some x (b ∷ s) h = has-pick (eqb b x) b (upTo x s) s (has x s) (has-some x s) h
+
+hasnt-pick : (t : Bool) (b : ℕ) (u s : List ℕ) (v : Bool) → (length s ≤ length u → v ≡ false) → length (b ∷ s) ≤ length (pick t [] (b ∷ u)) → pick t true v ≡ false
+hasnt-pick true b u s v h l = absurd (omega arith)
+hasnt-pick false b u s v h l = h (omega arith)
+
+pub has-none : (x : ℕ) (s : List ℕ) → length s ≤ length (upTo x s) → has x s ≡ false
+unfolding upTo has
+has-none x [] h = refl
+has-none x (b ∷ s) h = hasnt-pick (eqb b x) b (upTo x s) s (has x s) (has-none x s) h
+
+-- the part of s from a on
+part-from : (a : ℕ) (s : List ℕ) → take (length s - a) (drop a s) ≡ drop a s
+part-from a s = take-all (length s - a) (drop a s) (omega (arith, length-drop a s))
+
+pub rest-some : (x e : ℕ) (s : List ℕ) → e ≡ 0 + length (upTo x s) → e < length s → take (length s - (e + 1)) (drop (e + 1) s) ≡ past x s
+rest-some x e s h l =
+    let k : e + 1 ≡ suc (length (upTo x s)) = omega arith in
+    part-from (e + 1) s ∙ ap (λ (n : ℕ). drop n s) k ∙ drop-past x s (omega arith)
+
+pub rest-none : (x e : ℕ) (s : List ℕ) → e ≡ 0 + length (upTo x s) → length s ≤ e → take (length s - e) (drop e s) ≡ past x s
+rest-none x e s h l = part-from e s ∙ drop-of-length-le s l ∙ sym (none-past x s (omega arith))

@@ -1,0 +1,27 @@
+-- `scan::line_says` meets its contract.
+use mathlib.Core.Path.{ap, ap₂, _∙_}
+use Rattle.rules.specs.Reader.{wordKind, fieldsSay, lineSays}
+use borrow.Author.Needs.{needs}
+use Rattle.scan.proofs.line_says.Statement.{statement}
+use Rattle.scan.proofs.line_says.Tie as tie
+
+field-requires : tie.Need-field-requires
+field-requires c κs = search needs
+
+word-kind-requires : tie.Need-word-kind-requires
+word-kind-requires c κs = search needs
+
+after-field-requires : tie.Need-after-field-requires
+after-field-requires c κs = search needs
+
+fields-say-requires : tie.Need-fields-say-requires
+fields-say-requires c κs = search needs
+
+returns : tie.Need-returns
+unfolding lineSays
+returns c = c .fields-say .ensures ∙ ap₂ fieldsSay (c .before .before .word-kind .ensures ∙ ap wordKind (c .before .before .before .field .ensures)) (c .before .after-field .ensures)
+
+pub line-says-spec : {M : Type 1} → statement M
+line-says-spec =
+    tie.close
+    (tie.spec field-requires word-kind-requires after-field-requires fields-say-requires returns)
