@@ -1,15 +1,15 @@
 -- Loops that write an array in order towards a list that is known beforehand, and loops that count.
 use mathlib.Core.Path.{_≡_, refl, ap, sym, _∙_}
 use mathlib.Core.Bool.{Bool, true, false}
-use mathlib.Core.List.{List, [], _∷_, _++_, append-nil}
-use Prim.Native.Nat.{ℕ, zero, suc, _+_, _-_, _≤_, _<_}
+use mathlib.Core.List.{List, _++_, append-nil}
+use Prim.Native.Nat.{ℕ, suc, _+_, _-_, _≤_, _<_}
 use native.Mathlib.Numerals.{add-one}
 use native.Mathlib.Nat.{zero-add}
 use native.Mathlib.Omega.{arith}
-use lib.ListN.{length, take, drop, getD, set, length-append, length-drop, drop-of-length-le}
+use lib.ListN.{length, take, drop, getD, set, drop-of-length-le}
 use lib.Seq.{drop-cons, take-suc, take-all, length-take-le, set-at, getD-at, append-snoc, set-getD}
-use Rattle.rules.specs.Words.{pick, bit, sum, countIn, mapFrom, mapAt, tab}
-use Rattle.bridge.specs.Lists.{mapFrom-long, mapAt-at, tab-long, tab-at}
+use Rattle.rules.specs.Words.{sum, countIn, mapAt}
+use Rattle.bridge.specs.Lists.{mapFrom-long, mapAt-at}
 
 -- the first `i` of `ys`, and after them what `xs` has from `i` on
 abbrev pub blend {ℓ} : {A : Type ℓ} → ℕ → List A → List A → List A

@@ -1,15 +1,11 @@
 -- The first fault of many tests, as a loop or a row of tests finds it.
-use mathlib.Core.Path.{_≡_, refl, ap, ap₂, sym, _∙_}
-use mathlib.Core.Bool.{Bool, true, false}
-use mathlib.Core.List.{List, [], _∷_}
-use Prim.Native.Nat.{ℕ, zero, suc, _+_, _-_, _≤_, _<_}
+use mathlib.Core.Path.{_≡_, refl, ap, sym, _∙_}
+use Prim.Native.Nat.{ℕ, zero, suc, _+_, _-_, _<_}
 use native.Mathlib.Numerals.{add-one}
 use native.Mathlib.Omega.{arith}
-use lib.Dec.{eqb}
-use borrow.Author.Tests.{eqb-true, eq-eqb, ne-eqb}
+use borrow.Author.Tests.{eq-eqb, ne-eqb}
 use Rattle.rules.specs.declared.Fault.{Fault}
-use Rattle.rules.specs.Words.{pick}
-use Rattle.rules.specs.Refusals.{faultOf, noFault, orNext, first, firstOf}
+use Rattle.rules.specs.Refusals.{noFault, orNext, first, firstOf}
 
 pub next-none : (f g : Fault) → f .number ≡ 0 → orNext f g ≡ g
 unfolding orNext

@@ -1,15 +1,14 @@
 -- One slot for one job: what it finds, what it leaves, and how the job's finish and demotion so far go on.
-use mathlib.Core.Path.{_≡_, refl, ap, ap₂, sym, _∙_}
+use mathlib.Core.Path.{_≡_, refl, ap, _∙_}
 use mathlib.Core.Bool.{Bool, true, false, _&&_, _||_, false≢true, true≢false}
 use mathlib.Core.Logic.{_⊎_, inl, inr}
-use Prim.Native.Nat.{ℕ, zero, suc, _+_, _-_, _≤_, _<_}
+use Prim.Native.Nat.{ℕ, zero, suc, _-_, _<_}
 use native.Mathlib.Omega.{arith}
-use lib.Dec.{eqb, ltb, leb}
+use lib.Dec.{eqb, leb}
 use Rattle.rules.specs.Words.{pick, orElse}
 use Rattle.rules.specs.Slot.{isPresent, isDemoted, leftOf, dueOf, isDemotedNow, loweredJob, workedJob}
 use Rattle.rules.specs.declared.Job.{Job}
 use Rattle.rules.specs.declared.Job.the-variants.{Idle, Normal, Demoted}
-use Rattle.bridge.specs.Lists.{cases}
 use Rattle.bridge.specs.Steps.{demotedJob, openedJob}
 
 -- k is j but for its kind and free count, demoted where `low`

@@ -1,23 +1,19 @@
 -- What an accepted case gives: each test as a fact, and the order and separation of any two releases.
-use mathlib.Core.Path.{_≡_, refl, ap, ap₂, sym, _∙_}
-use mathlib.Core.Bool.{Bool, true, false, _&&_, _||_, false≢true, true≢false}
+use mathlib.Core.Path.{_≡_, refl, ap, sym, _∙_}
+use mathlib.Core.Bool.{Bool, true, false, _&&_, _||_, false≢true}
 use mathlib.Core.Logic.{_⊎_, inl, inr}
-use mathlib.Core.List.{List, [], _∷_}
-use Prim.Native.Nat.{ℕ, zero, suc, _+_, _-_, _*_, _/_, _%_, _≤_, _<_}
+use mathlib.Core.List.{List}
+use Prim.Native.Nat.{ℕ, zero, suc, _+_, _-_, _%_, _≤_, _<_}
 use native.Mathlib.Nat.{eq-or-lt-of-le}
-use native.Mathlib.Decide.{decLt}
 use native.Mathlib.Omega.{arith}
 use lib.ListN.{length}
 use lib.Dec.{eqb, ltb, leb}
-use borrow.Author.Tests.{eqb-true, eqb-false, leb-true, ltb-true, eq-eqb, ne-eqb}
+use borrow.Author.Tests.{eqb-true, eqb-false, leb-true, ltb-true}
 use Rattle.rules.specs.declared.Fault.{Fault}
 use Rattle.rules.specs.Words.{pick}
 use Rattle.rules.specs.Case.{Case, taskCount, period, execution, deadline, releaseCount, timeOf, nameOf}
-use Rattle.rules.specs.Refusals.{faultOf, noFault, unless, orNext, first, firstOf, procsFault, policyFault, tableFault, taskStands, taskFault, tasksFault, endFault, traceFault, lastBefore, laterThan, inOrder, apart, releaseFault, releasesFault, caseFault, Accepted}
+use Rattle.rules.specs.Refusals.{unless, orNext, firstOf, procsFault, policyFault, tableFault, taskStands, taskFault, tasksFault, endFault, traceFault, lastBefore, laterThan, inOrder, apart, releaseFault, releasesFault, caseFault, Accepted}
 use Rattle.rules.specs.Limits.{maxEnd}
-use Rattle.rules.specs.Replay.{releasedIn, releasedAt}
-use Rattle.bridge.specs.Lists.{cases}
-use Rattle.bridge.specs.Stands.{Sole}
 
 pub and-left : (a b : Bool) → (a && b) ≡ true → a ≡ true
 and-left true b e = refl

@@ -1,5 +1,5 @@
 -- Lists made or changed by index, and the first that passes. Nothing of scheduling.
-use mathlib.Core.Path.{_≡_, refl, ap, ap₂, sym, _∙_}
+use mathlib.Core.Path.{_≡_, refl, ap, ap₂, _∙_}
 use mathlib.Core.Bool.{Bool, true, false}
 use mathlib.Core.Logic.{_⊎_, inl, inr}
 use mathlib.Core.List.{List, [], _∷_, _++_}
@@ -7,7 +7,7 @@ use Prim.Native.Nat.{ℕ, zero, suc, _+_, _-_, _≤_, _<_}
 use native.Mathlib.Nat.{not-suc-le-zero, add-zero, add-suc, suc-add, zero-add}
 use native.Mathlib.Omega.{arith}
 use lib.ListN.{length, getD, set}
-use Rattle.rules.specs.Words.{pick, mapFrom, mapAt, tab, firstIn, orElse}
+use Rattle.rules.specs.Words.{pick, mapFrom, mapAt, tab}
 
 pub mapFrom-long : {A : Type 0} (f : ℕ → A → A) (k : ℕ) (xs : List A) → length (mapFrom f k xs) ≡ length xs
 unfolding mapFrom

@@ -1,26 +1,25 @@
 -- The records as numbers in the lent room: a store of one record, and the stores of one slot.
 use mathlib.Core.Path.{_≡_, refl, ap, ap₂, sym, _∙_}
-use mathlib.Core.Bool.{Bool, true, false, _&&_, false≢true, true≢false}
-use mathlib.Core.Logic.{_⊎_, inl, inr}
+use mathlib.Core.Bool.{Bool, true, false, _&&_}
 use mathlib.Core.List.{List, [], _∷_, _++_}
 use Prim.Native.Nat.{ℕ, zero, suc, _+_, _-_, _*_, _≤_, _<_}
-use native.Mathlib.Nat.{eq-or-lt-of-le, not-suc-le-zero, zero-add}
-use native.Mathlib.Decide.{decLt, decLe}
+use native.Mathlib.Nat.{not-suc-le-zero, zero-add}
+use native.Mathlib.Decide.{decLe}
 use native.Mathlib.Omega.{arith}
 use lib.Dec.{eqb, ltb, leb}
-use lib.ListN.{length, getD, set, drop}
-use borrow.Author.Tests.{lt-ltb, le-ltb, eqb-true, eqb-false}
+use lib.ListN.{length, getD, set}
+use borrow.Author.Tests.{lt-ltb, le-ltb}
 use Rattle.rules.specs.Words.{pick, bit, sum, countIn, tab}
-use Rattle.rules.specs.Case.{Case, releaseCount, timeOf, nameOf}
-use Rattle.rules.specs.Slot.{TaskSet, jobAt, isPresent, leftOf, dueOf, isDemotedNow, isCf}
-use Rattle.rules.specs.Replay.{setupIn, releasedAt, stateAt, ranAt, finishedAt, demotedAt, Record, recordOf, recordBy, numbers, marked}
+use Rattle.rules.specs.Case.{Case, releaseCount, nameOf}
+use Rattle.rules.specs.Slot.{jobAt, isPresent, leftOf, dueOf, isDemotedNow, isCf}
+use Rattle.rules.specs.Replay.{setupIn, ranAt, finishedAt, demotedAt, Record, recordOf, recordBy, numbers, marked}
 use Rattle.rules.specs.declared.Job.{Job}
 use Rattle.rules.specs.declared.Run.{Run}
-use Rattle.bridge.specs.Lists.{cases, tab-long, tab-at, tab-cong, tab-set}
+use Rattle.bridge.specs.Lists.{tab-long, tab-at, tab-cong, tab-set}
 use Rattle.bridge.specs.Stands.{readyAt, openAt, finished-at, demoted-at}
 use Rattle.bridge.specs.Legal.{Legal}
 use Rattle.bridge.specs.Records.{noted}
-use Rattle.bridge.specs.Turn.{lastPlace, Reached, Live, turn-idle, turn-live}
+use Rattle.bridge.specs.Turn.{lastPlace, Reached, turn-idle, turn-live}
 
 -- ---- three numbers a record
 unfoldable pub put3 : List ℕ → ℕ → Record → List ℕ

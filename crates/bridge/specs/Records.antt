@@ -1,25 +1,24 @@
 -- How the record of a release goes on from time t to t + 1, and when its task is idle.
-use mathlib.Core.Path.{_≡_, refl, ap, ap₂, sym, _∙_}
+use mathlib.Core.Path.{_≡_, refl, ap, sym, _∙_}
 use mathlib.Core.Bool.{Bool, true, false, _&&_, _||_, false≢true, true≢false}
 use mathlib.Core.Logic.{_⊎_, inl, inr}
-use mathlib.Core.List.{List, [], _∷_}
-use Prim.Native.Nat.{ℕ, zero, suc, _+_, _-_, _*_, min, _≤_, _<_}
+use mathlib.Core.List.{List}
+use Prim.Native.Nat.{ℕ, zero, suc, _+_, _-_, _≤_, _<_}
 use native.Mathlib.Nat.{eq-or-lt-of-le, add-suc, add-zero}
-use native.Mathlib.Decide.{decLt, decLe}
+use native.Mathlib.Decide.{decLt}
 use native.Mathlib.Omega.{arith}
-use lib.Dec.{eqb, ltb, leb}
-use lib.ListN.{length, getD}
-use borrow.Author.Tests.{eqb-true, eqb-false, leb-true, ltb-true, eq-eqb, ne-eqb, le-leb, lt-leb}
-use Rattle.rules.specs.Words.{pick, orElse, firstIn, tab}
-use Rattle.rules.specs.Case.{Case, taskCount, period, execution, deadline, releaseCount, timeOf, nameOf}
-use Rattle.rules.specs.Slot.{jobAt, isPresent, isDemoted, dueOf, isCf, isDemotedNow, workedJob}
-use Rattle.rules.specs.Replay.{setupIn, releasedIn, releasedAt, fresh, idleTask, stateFrom, stateAt, ranAt, finishedAt, demotedAt, slotsBy, finishBy, demotionBy, verdictBy, verdictOf, Record, recordOf, jobRecord, recordBy}
+use lib.Dec.{eqb, leb}
+use borrow.Author.Tests.{eqb-true, eq-eqb, le-leb, lt-leb}
+use Rattle.rules.specs.Words.{pick, orElse, firstIn}
+use Rattle.rules.specs.Case.{Case, period, execution, deadline, releaseCount, timeOf, nameOf}
+use Rattle.rules.specs.Slot.{jobAt, isPresent, isDemoted, dueOf, isCf, isDemotedNow}
+use Rattle.rules.specs.Replay.{setupIn, releasedIn, releasedAt, idleTask, stateFrom, stateAt, finishedAt, demotedAt, slotsBy, finishBy, demotionBy, verdictBy, verdictOf, Record, recordOf, jobRecord}
 use Rattle.rules.specs.declared.Job.{Job}
 use Rattle.rules.specs.declared.Job.the-variants.{Idle, Normal, Demoted}
 use Rattle.rules.specs.declared.Task.{Task}
-use Rattle.bridge.specs.Lists.{cases, tab-at}
-use Rattle.bridge.specs.Steps.{lowers, openedJob, judgedJob}
-use Rattle.bridge.specs.Jobs.{Kept, kept-opened, Live, Stand, written}
+use Rattle.bridge.specs.Lists.{tab-at}
+use Rattle.bridge.specs.Steps.{lowers, judgedJob}
+use Rattle.bridge.specs.Jobs.{Kept, kept-opened, Stand, written}
 use Rattle.bridge.specs.Stands.{Sole, readyAt, openAt, ready, stands, next-at, ran-present, demoted-at}
 use Rattle.bridge.specs.Legal.{Legal, Good}
 

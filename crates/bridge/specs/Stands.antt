@@ -1,23 +1,21 @@
 -- The bridge from records to states: how the job of a release stands at each time up to its deadline.
-use mathlib.Core.Path.{_≡_, refl, ap, ap₂, sym, _∙_}
-use mathlib.Core.Bool.{Bool, true, false, _&&_, _||_, false≢true, true≢false}
-use mathlib.Core.Logic.{_⊎_, inl, inr}
-use Prim.Native.Nat.{ℕ, zero, suc, _+_, _-_, min, _≤_, _<_}
+use mathlib.Core.Path.{_≡_, refl, ap, _∙_}
+use mathlib.Core.Bool.{true, false, _&&_}
+use mathlib.Core.Logic.{inl, inr}
+use Prim.Native.Nat.{ℕ, zero, suc, _+_, _-_, _<_}
 use native.Mathlib.Nat.{add-zero, add-suc, zero-add, add-assoc}
 use native.Mathlib.Omega.{arith}
-use lib.Dec.{eqb, ltb, leb}
-use borrow.Author.Tests.{ne-eqb, lt-leb, le-leb}
-use lib.ListN.{length, getD}
-use Rattle.rules.specs.Words.{pick, orElse, firstIn, tab}
+use lib.Dec.{eqb, leb}
+use borrow.Author.Tests.{ne-eqb}
+use Rattle.rules.specs.Words.{pick, firstIn}
 use Rattle.rules.specs.Case.{Case, deadline}
-use Rattle.rules.specs.Slot.{Setup, TaskSet, jobAt, isPresent, isDemoted, leftOf, dueOf, present, isMissed, isCf, isDemotedNow, releasedJob, readied, opened, chosen, workedJob, after, ran, finished, demotedNow}
-use Rattle.rules.specs.Replay.{setupIn, releasedAt, fresh, stateFrom, stateAt, finishedAt, demotedAt, ranAt, slotsBy, finishBy, demotionBy, verdictBy, verdictOf}
+use Rattle.rules.specs.Slot.{Setup, TaskSet, jobAt, isPresent, leftOf, dueOf, present, isCf, isDemotedNow, readied, opened, chosen, workedJob, after, ran, finished, demotedNow}
+use Rattle.rules.specs.Replay.{setupIn, releasedAt, stateFrom, stateAt, finishedAt, demotedAt, ranAt}
 use Rattle.rules.specs.declared.Job.{Job}
-use Rattle.rules.specs.declared.Job.the-variants.{Idle, Normal, Demoted}
 use Rattle.rules.specs.declared.Run.{Run}
-use Rattle.bridge.specs.Lists.{cases, tab-long}
+use Rattle.bridge.specs.Lists.{tab-long}
 use Rattle.bridge.specs.Steps.{Full, after-full, readied-at, opened-at, after-at, readiedJob, openedJob, judgedJob, lowers}
-use Rattle.bridge.specs.Jobs.{Kept, kept-opened, Live, Stand, slot-stand, written}
+use Rattle.bridge.specs.Jobs.{Stand, slot-stand}
 
 -- ---- states, slot by slot
 pub state-next : (c : Case) (t : ℕ) → stateAt c (suc t) ≡ after (setupIn c) t (releasedAt c t) (stateAt c t)

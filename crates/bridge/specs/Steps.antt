@@ -1,19 +1,16 @@
 -- What each step does to the job of one task.
-use mathlib.Core.Path.{_≡_, refl, ap, ap₂, sym, _∙_}
-use mathlib.Core.Bool.{Bool, true, false, _&&_, _||_}
-use mathlib.Core.Logic.{_⊎_, inl, inr}
-use mathlib.Core.List.{List, [], _∷_}
-use Prim.Native.Nat.{ℕ, zero, suc, _+_, _-_, _≤_, _<_}
+use mathlib.Core.Path.{_≡_, refl, ap, ap₂, _∙_}
+use mathlib.Core.Bool.{Bool, true, false, _&&_}
+use Prim.Native.Nat.{ℕ, _-_, _<_}
 use native.Mathlib.Omega.{arith}
-use lib.Dec.{eqb, ltb, leb}
 use lib.ListN.{length, getD}
-use Rattle.rules.specs.Words.{pick, mapFrom, mapAt}
-use Rattle.rules.specs.Slot.{Setup, TaskSet, noTask, runOf, withJob, jobAt, isPresent, isDemoted, leftOf, dueOf, present, eachTask, isMissed, judgedTask, judged, releasedJob, releasedTask, joinedTask, joined, isCf, demotes, isDemotedNow, demotedTask, demoted, jobsNow, contentionFree, loweredJob, loweredTask, lowered, readied, opened, comesBefore, rank, chosen, workedJob, workedTask, worked, after, ran, finished, missed, demotedNow}
+use Rattle.rules.specs.Words.{pick}
+use Rattle.rules.specs.Slot.{Setup, TaskSet, noTask, withJob, jobAt, leftOf, dueOf, eachTask, isMissed, judgedTask, judged, releasedJob, releasedTask, joinedTask, joined, isCf, isDemotedNow, demotedTask, demoted, contentionFree, loweredJob, loweredTask, lowered, readied, opened, chosen, workedJob, workedTask, worked, after, ran}
 use Rattle.rules.specs.declared.Job.{Job}
-use Rattle.rules.specs.declared.Job.the-variants.{Idle, Normal, Demoted}
+use Rattle.rules.specs.declared.Job.the-variants.{Idle, Demoted}
 use Rattle.rules.specs.declared.Task.{Task}
 use Rattle.rules.specs.declared.Run.{Run}
-use Rattle.bridge.specs.Lists.{mapFrom-long, mapAt-at, cases}
+use Rattle.bridge.specs.Lists.{mapFrom-long, mapAt-at}
 
 abbrev pub Full : Run → Type 0
 Full r = length (r .tasks) ≡ 32

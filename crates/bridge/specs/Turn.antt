@@ -1,23 +1,23 @@
 -- One slot for all releases of one task: at most the last one's record changes, and how.
-use mathlib.Core.Path.{_≡_, refl, ap, ap₂, sym, _∙_}
-use mathlib.Core.Bool.{Bool, true, false, _&&_, _||_, false≢true, true≢false}
+use mathlib.Core.Path.{_≡_, refl, ap, sym, _∙_}
+use mathlib.Core.Bool.{Bool, true, false, true≢false}
 use mathlib.Core.Logic.{_⊎_, inl, inr}
-use mathlib.Core.List.{List, [], _∷_}
-use Prim.Native.Nat.{ℕ, zero, suc, _+_, _-_, _*_, min, _≤_, _<_}
-use native.Mathlib.Nat.{eq-or-lt-of-le, add-suc, add-zero}
+use mathlib.Core.List.{List}
+use Prim.Native.Nat.{ℕ, zero, suc, _+_, _-_, _≤_, _<_}
+use native.Mathlib.Nat.{eq-or-lt-of-le}
 use native.Mathlib.Decide.{decLt, decLe}
 use native.Mathlib.Omega.{arith}
-use lib.Dec.{eqb, ltb, leb}
+use lib.Dec.{eqb}
 use borrow.Author.Tests.{eqb-true, eqb-false}
 use Rattle.rules.specs.Words.{pick}
 use Rattle.rules.specs.Case.{Case, period, deadline, releaseCount, timeOf, nameOf}
 use Rattle.rules.specs.Slot.{isPresent, dueOf, isCf}
-use Rattle.rules.specs.Replay.{setupIn, releasedAt, stateAt, finishedAt, demotedAt, demotionBy, Record, jobRecord, recordBy}
+use Rattle.rules.specs.Replay.{setupIn, releasedAt, stateAt, finishedAt, demotedAt, demotionBy, jobRecord, recordBy}
 use Rattle.rules.specs.declared.Job.the-variants.{Idle}
 use Rattle.bridge.specs.Steps.{lowers}
-use Rattle.bridge.specs.Jobs.{Kept, kept-opened}
+use Rattle.bridge.specs.Jobs.{kept-opened}
 use Rattle.bridge.specs.Stands.{readyAt, openAt}
-use Rattle.bridge.specs.Legal.{Legal, Good}
+use Rattle.bridge.specs.Legal.{Legal}
 use Rattle.bridge.specs.Records.{released-no, taskAt, good-at, sole, never-released, over, noted, future, past, absent-at, live-at}
 
 -- the last of the first k releases that has the name (0 where none has)

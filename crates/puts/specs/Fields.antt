@@ -4,6 +4,7 @@ use mathlib.Core.List.{List, [], _∷_, _++_, map}
 use lib.Dec.{eqb}
 use Rattle.rules.specs.Words.{pick}
 use Rattle.rules.specs.Text.{digitsOf, procsWord, policyWord, taskWord, endWord, releaseWord}
+use Rattle.rules.specs.Writer.{lineText}
 use Rattle.rules.specs.Report.{runWord, jobWord, totalWord, refusedWord}
 
 -- fields, each with the byte `between` in front
@@ -32,3 +33,7 @@ wordOf w =
     (pick (eqb w 4) releaseWord
     (pick (eqb w 5) runWord
     (pick (eqb w 6) jobWord (pick (eqb w 7) totalWord (pick (eqb w 8) refusedWord (pick (eqb w 9) countWord runningWord)))))))))
+
+-- a line of a word and numbers
+abbrev pub numberLine : ℕ → ℕ → List ℕ → List ℕ
+numberLine between word vs = lineText between (wordOf word) (map digitsOf vs)

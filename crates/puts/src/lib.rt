@@ -5,7 +5,7 @@ ghost use Prim.Native.Nat.{_+_, _<_, _≤_};
 ghost use lib.ListN.{length};
 ghost use Rattle.rules.specs.Text.{digitsOf, policyName};
 ghost use Rattle.puts.specs.Laid.{Laid};
-ghost use Rattle.puts.specs.Fields.{numberFields, wordOf};
+ghost use Rattle.puts.specs.Fields.{numberFields, numberLine, wordOf};
 
 // The byte of a digit.
 fn digit(v: u32) -> u8
@@ -117,4 +117,15 @@ pub fn put_policy(out: &mut [u8], at: usize, between: u8, policy: u32) -> usize
         0 => put_bytes(out, at + 1, b"edf"),
         _ => put_bytes(out, at + 1, b"edf-cf"),
     }
+}
+
+// Writes a line of a word and numbers at the start.
+pub fn put_line(out: &mut [u8], between: u8, word: u32, vs: &[u32]) -> usize
+    requires { ⌜ length (numberLine between word (now vs)) ≤ length (now out) ⌝ }
+    ensures { λ r. ⌜ Laid 0 (numberLine between word (now (vs .entry))) (now (out .entry)) (now (out .exit)) r ⌝ }
+{
+    let at = put_word(out, word);
+    let end = put_numbers(out, at, between, vs);
+    out[end] = 10;
+    end + 1
 }

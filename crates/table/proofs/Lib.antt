@@ -1,0 +1,3 @@
+pub mod Small
+pub mod Checks
+pub mod Rows
