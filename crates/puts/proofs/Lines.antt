@@ -26,14 +26,19 @@ pub line-length : (b : ℕ) (word : List ℕ) (ss : List (List ℕ)) → length 
 line-length b word ss =
     sym (ap length (line-end b word ss)) ∙ omega (arith, length-append word (fieldsText b ss ++ (10 ∷ [])), length-append (fieldsText b ss) (10 ∷ []))
 
-numbers-append : (b v : ℕ) (vs : List ℕ) → numberFields b (vs ++ (v ∷ [])) ≡ numberFields b vs ++ (b ∷ digitsOf v)
+-- numbers behind numbers
+pub numbers-append : (b : ℕ) (us vs : List ℕ) → numberFields b (us ++ vs) ≡ numberFields b us ++ numberFields b vs
 unfolding fieldsText
-numbers-append b v [] = append-nil (b ∷ digitsOf v)
-numbers-append b v (u ∷ us) = ap (λ (l : List ℕ). b ∷ l) (ap (λ (l : List ℕ). digitsOf u ++ l) (numbers-append b v us) ∙ sym (append-assoc (digitsOf u) (numberFields b us) (b ∷ digitsOf v)))
+numbers-append b [] vs = refl
+numbers-append b (u ∷ us) vs =
+    ap (λ (l : List ℕ). b ∷ l)
+    (ap (λ (l : List ℕ). digitsOf u ++ l) (numbers-append b us vs) ∙ sym (append-assoc (digitsOf u) (numberFields b us) (numberFields b vs)))
 
 -- one more number
 pub numbers-suc : (b : ℕ) (vs : List ℕ) (i : ℕ) → i < length vs → numberFields b (take (i + 1) vs) ≡ numberFields b (take i vs) ++ (b ∷ digitsOf (getD vs i 0))
-numbers-suc b vs i h = rw (add-one i, take-suc vs i 0 h) (numbers-append b (getD vs i 0) (take i vs))
+unfolding fieldsText
+numbers-suc b vs i h =
+    rw (add-one i, take-suc vs i 0 h, numbers-append b (take i vs) (getD vs i 0 ∷ []), append-nil (digitsOf (getD vs i 0)))
 
 -- the bytes of numbers do not depend on the parting byte, and are at most eleven a number
 pub numbers-length : (b d : ℕ) (vs : List ℕ) → length (numberFields b vs) ≡ length (numberFields d vs)

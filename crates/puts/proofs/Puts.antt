@@ -72,6 +72,10 @@ laid-part a text xs ys n h p =
       bytes = rw (none, append-nil, new) (sym there);
     }
 
+-- the part lent from `a` on has what is left of the length
+pub part-length : (a : ℕ) (xs : List ℕ) → length (take (length xs - a) (drop a xs)) ≡ length xs - a
+part-length a xs = length-take-le (length xs - a) (drop a xs) (omega (arith, length-drop a xs))
+
 -- nothing grows
 pub laid-length : {at : ℕ} {text old new : List ℕ} {end : ℕ} → Laid at text old new end → length new ≡ length old
 laid-length {at} {text} {old} p = ap length (p .bytes) ∙ length-sets old at text
