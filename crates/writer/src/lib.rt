@@ -2,12 +2,12 @@
 ghost use mathlib.Core.Path.{_≡_};
 ghost use Prim.Native.Nat.{_+_, _*_, _≤_};
 ghost use lib.ListN.{length};
-ghost use Rattle.rules.specs.Case.{caseOf, taskCount, releaseCount};
+ghost use Rattle.rules.specs.Case.{caseOf};
 ghost use Rattle.rules.specs.Answers.{writtenAs};
 ghost use Rattle.rules.specs.Text.{policyName};
-ghost use Rattle.rules.specs.Writer.{procsText, policyText, caseText, writeAnswer, writeBytes};
+ghost use Rattle.rules.specs.Writer.{policyText, caseText, writeAnswer, writeBytes};
 ghost use Rattle.puts.specs.Laid.{Laid};
-ghost use Rattle.writer.specs.Rows.{rowsText};
+ghost use Rattle.writer.specs.Rows.{rowsText, headText, tailText, WholeRows};
 use puts::numbers_width;
 use puts::put_line;
 use puts::put_policy;
@@ -53,5 +53,88 @@ fn policy_width(policy: u32) -> usize
     match policy {
         0 => 3,
         _ => 6,
+    }
+}
+
+// Writes the lines of processors and policy at the start.
+fn put_head(out: &mut [u8], procs: u32, policy: u32) -> usize
+    requires { ⌜ length (headText procs policy) ≤ length (now out) ⌝ }
+    ensures { λ r. ⌜ Laid 0 (headText procs policy) (now (out .entry)) (now (out .exit)) r ⌝ }
+{
+    let numbers = [procs];
+    let second = put_line(out, 9, 0, &numbers);
+    let n = put_policy_line(&mut out[second..], policy);
+    second + n
+}
+
+// Writes the end line and the lines of the releases, from index `at` on.
+fn put_tail(out: &mut [u8], at: usize, end: u32, trace: &[u32]) -> usize
+    requires { ⌜ at + length (tailText end (now trace)) ≤ length (now out) ⌝ }
+    ensures { λ r. ⌜ Laid at (tailText end (now (trace .entry))) (now (out .entry)) (now (out .exit)) r ⌝ }
+{
+    let numbers = [end];
+    let n = put_line(&mut out[at..], 9, 3, &numbers);
+    put_rows(out, at + n, 4, 2, trace.len() / 2, trace)
+}
+
+// Writes the text of a case at the start.
+fn put_case(
+    procs: u32,
+    policy: u32,
+    table: &[u32],
+    end: u32,
+    trace: &[u32],
+    out: &mut [u8],
+) -> usize
+    requires { ⌜ length (caseText (caseOf procs policy (now table) end (now trace))) ≤ length (now out) ⌝ }
+    ensures { λ r. ⌜ Laid 0 (caseText (caseOf procs policy (now (table .entry)) end (now (trace .entry)))) (now (out .entry)) (now (out .exit)) r ⌝ }
+{
+    let tasks = put_head(out, procs, policy);
+    let tail = put_rows(out, tasks, 2, 3, table.len() / 3, table);
+    put_tail(out, tail, end, trace)
+}
+
+// How long the text of a case is. Beside their words, tabs and newlines the five kinds of line have only numbers and the policy's word.
+fn text_length(procs: u32, policy: u32, table: &[u32], end: u32, trace: &[u32]) -> usize
+    requires { ⌜ WholeRows (now table) (now trace) ⌝ }
+    ensures { λ r. ⌜ r ≡ length (caseText (caseOf procs policy (now (table .entry)) end (now (trace .entry)))) ⌝ }
+{
+    let head = 7 + width(procs) + 8 + policy_width(policy);
+    let tasks = table.len() / 3 * 5 + numbers_width(table);
+    let releases = trace.len() / 2 * 8 + numbers_width(trace);
+    head + tasks + 5 + width(end) + releases
+}
+
+// Writes the text of a case to the start of `out`, if it is a case and the text fits.
+pub fn write(
+    procs: u32,
+    policy: u32,
+    table: &[u32],
+    end: u32,
+    trace: &[u32],
+    out: &mut [u8],
+) -> Written
+    ensures { λ r. ⌜ writtenAs r ≡ writeAnswer (caseOf procs policy (now (table .entry)) end (now (trace .entry))) (now (out .entry)) ⌝ }
+    ensures { λ r. ⌜ now (out .exit) ≡ writeBytes (caseOf procs policy (now (table .entry)) end (now (trace .entry))) (now (out .entry)) ⌝ }
+{
+    let found = case_fault(procs, policy, table, end, trace);
+    let number = found.number;
+    if number != 0 {
+        return Written::Refused {
+            number,
+            place: found.place,
+        };
+    }
+    let need = text_length(procs, policy, table, end, trace);
+    let short = room_fault(need, out.len());
+    let number = short.number;
+    if number != 0 {
+        return Written::Refused {
+            number,
+            place: short.place,
+        };
+    }
+    Written::Text {
+        length: put_case(procs, policy, table, end, trace, out),
     }
 }
