@@ -1,12 +1,15 @@
 -- Fields and lines: one more field, fields and the end of a line, and how many bytes numbers take.
 use mathlib.Core.Path.{_≡_, refl, sym, ap, _∙_}
-use mathlib.Core.List.{List, [], _∷_, _++_, map, append-assoc, append-nil}
+use mathlib.Core.Bool.{Bool, true, false}
+use mathlib.Core.List.{List, [], _∷_, _++_, append-assoc, append-nil}
 use Prim.Native.Nat.{ℕ, zero, suc, _+_, _*_, _≤_, _<_}
 use native.Mathlib.Numerals.{add-one}
 use native.Mathlib.Omega.{arith}
+use lib.Dec.{eqb}
 use lib.ListN.{length, take, getD, length-append}
 use lib.Seq.{take-suc}
-use Rattle.rules.specs.Text.{digitsOf}
+use Rattle.rules.specs.Words.{pick}
+use Rattle.rules.specs.Text.{digitsOf, policyName, edfWord, edfCfWord}
 use Rattle.rules.specs.Writer.{moreFields, lineText}
 use Rattle.puts.specs.Fields.{fieldsText, numberFields}
 use Rattle.puts.proofs.Digits.{at-most-ten}
@@ -34,11 +37,14 @@ numbers-append b (u ∷ us) vs =
     ap (λ (l : List ℕ). b ∷ l)
     (ap (λ (l : List ℕ). digitsOf u ++ l) (numbers-append b us vs) ∙ sym (append-assoc (digitsOf u) (numberFields b us) (numberFields b vs)))
 
--- one more number
-pub numbers-suc : (b : ℕ) (vs : List ℕ) (i : ℕ) → i < length vs → numberFields b (take (i + 1) vs) ≡ numberFields b (take i vs) ++ (b ∷ digitsOf (getD vs i 0))
+-- one number, and one more
+pub numbers-one : (b v : ℕ) → numberFields b (v ∷ []) ≡ b ∷ digitsOf v
 unfolding fieldsText
+numbers-one b v = ap (λ (l : List ℕ). b ∷ l) (append-nil (digitsOf v))
+
+pub numbers-suc : (b : ℕ) (vs : List ℕ) (i : ℕ) → i < length vs → numberFields b (take (i + 1) vs) ≡ numberFields b (take i vs) ++ (b ∷ digitsOf (getD vs i 0))
 numbers-suc b vs i h =
-    rw (add-one i, take-suc vs i 0 h, numbers-append b (take i vs) (getD vs i 0 ∷ []), append-nil (digitsOf (getD vs i 0)))
+    rw (add-one i, take-suc vs i 0 h, numbers-append b (take i vs) (getD vs i 0 ∷ []), numbers-one b (getD vs i 0))
 
 -- the bytes of numbers do not depend on the parting byte, and are at most eleven a number
 pub numbers-length : (b d : ℕ) (vs : List ℕ) → length (numberFields b vs) ≡ length (numberFields d vs)
@@ -57,3 +63,11 @@ unfolding fieldsText
 numbers-le b (v ∷ vs) zero h = omega (arith, length-append (digitsOf v) (numberFields b vs))
 numbers-le b (v ∷ vs) (suc i) h = omega (arith, numbers-le b vs i (omega arith), length-append (digitsOf v) (numberFields b vs), length-append (digitsOf v) (numberFields b (take i vs)))
 numbers-le b [] i h = absurd (omega arith)
+
+pub policy-room : (p : ℕ) → length (policyName p) ≤ 6
+unfolding policyName
+policy-room p = go (eqb p 0)
+  where
+    go : (b : Bool) → length (pick b edfWord edfCfWord) ≤ 6
+    go true = omega arith
+    go false = omega arith

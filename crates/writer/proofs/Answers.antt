@@ -1,19 +1,19 @@
 -- The writer's answer by cases: a case at fault, no room, the text.
-use mathlib.Core.Path.{_≡_, refl, sym, ap, _∙_}
-use mathlib.Core.Bool.{Bool, true, false, _&&_}
-use mathlib.Core.List.{List, [], _∷_, _++_}
-use Prim.Native.Nat.{ℕ, _+_, _*_, _%_, _≤_}
+use mathlib.Core.Path.{_≡_, refl, ap, _∙_}
+use mathlib.Core.Bool.{true, _&&_}
+use mathlib.Core.List.{List, [], _∷_}
+use Prim.Native.Nat.{ℕ, _%_, _≤_}
 use native.Mathlib.Omega.{arith}
 use lib.Dec.{eqb, leb}
-use lib.ListN.{length, drop}
-use borrow.Author.Tests.{eq-eqb, ne-eqb, eqb-true, leb-true}
+use lib.ListN.{length}
+use borrow.Author.Tests.{ne-eqb, eqb-true, leb-true}
 use Rattle.rules.specs.declared.Fault.{Fault}
 use Rattle.rules.specs.Case.{Case, taskCount, releaseCount}
-use Rattle.rules.specs.Refusals.{noFault, unless, orNext, procsFault, policyFault, tableFault, tasksFault, endFault, traceFault, releasesFault, roomFault, caseFault, Accepted}
+use Rattle.rules.specs.Refusals.{noFault, procsFault, policyFault, tableFault, tasksFault, endFault, traceFault, roomFault, caseFault, Accepted}
 use Rattle.rules.specs.Answers.{refusal, result, settled, kept}
 use Rattle.rules.specs.Writer.{caseText, writeFault, writeAnswer, writeBytes}
 use Rattle.bridge.specs.Firsts.{next-none, next-some}
-use Rattle.bridge.specs.Legal.{Legal, legal, next-clear, unless-clear, and-left}
+use Rattle.bridge.specs.Legal.{legal, next-clear, unless-clear, and-left}
 use Rattle.puts.specs.Laid.{Laid}
 use Rattle.puts.proofs.Puts.{laid-front}
 use Rattle.writer.specs.Rows.{WholeRows}

@@ -1,16 +1,16 @@
 -- Rows of numbers as lines: one more row, the rows of tasks and releases, and how many bytes rows take.
-use mathlib.Core.Path.{_≡_, refl, sym, ap, ap₂, _∙_}
+use mathlib.Core.Path.{_≡_, refl, sym, ap, _∙_}
 use mathlib.Core.List.{List, [], _∷_, _++_, map, append-assoc, append-nil}
-use Prim.Native.Nat.{ℕ, zero, suc, _+_, _-_, _*_, _/_, _≤_, _<_}
+use Prim.Native.Nat.{ℕ, zero, suc, _+_, _-_, _*_, _≤_, _<_}
 use native.Mathlib.Nat.{zero-add, add-zero, add-suc, suc-mul, zero-mul}
 use native.Mathlib.Numerals.{add-one}
 use native.Mathlib.Omega.{arith}
-use lib.ListN.{length, take, drop, getD, length-append, length-drop}
+use lib.ListN.{length, take, drop, getD, length-append}
 use lib.Seq.{drop-cons, take-add}
 use Rattle.rules.specs.Words.{tab}
-use Rattle.rules.specs.Case.{taskCount, releaseCount, period, execution, deadline, timeOf, nameOf}
+use Rattle.rules.specs.Case.{taskCount, releaseCount}
 use Rattle.rules.specs.Text.{digitsOf}
-use Rattle.rules.specs.Writer.{joinedText, lineText, taskText, releaseText}
+use Rattle.rules.specs.Writer.{joinedText, taskText, releaseText}
 use Rattle.bridge.specs.Lists.{tab-snoc, tab-cong}
 use Rattle.puts.specs.Fields.{fieldsText, numberFields, numberLine, wordOf}
 use Rattle.puts.proofs.Lines.{line-length, numbers-append}

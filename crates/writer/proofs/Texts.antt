@@ -1,15 +1,12 @@
 -- The text of a case in three parts, and how long each is.
 use mathlib.Core.Path.{_≡_, refl, sym, ap, _∙_}
-use mathlib.Core.Bool.{Bool, true, false}
 use mathlib.Core.List.{List, [], _∷_, _++_, append-assoc}
-use Prim.Native.Nat.{ℕ, _+_, _*_, _≤_}
+use Prim.Native.Nat.{ℕ, _+_, _*_}
 use native.Mathlib.Omega.{arith}
 use lib.ListN.{length, take, length-append}
-use lib.Dec.{eqb}
 use lib.Seq.{take-all}
-use Rattle.rules.specs.Words.{pick}
-use Rattle.rules.specs.Case.{Case, caseOf, taskCount, releaseCount}
-use Rattle.rules.specs.Text.{digitsOf, policyName, edfWord, edfCfWord}
+use Rattle.rules.specs.Case.{caseOf, taskCount, releaseCount}
+use Rattle.rules.specs.Text.{digitsOf, policyName}
 use Rattle.rules.specs.Writer.{lineText, moreFields, procsText, policyText, endText, caseText}
 use Rattle.puts.specs.Fields.{numberFields, wordOf}
 use Rattle.writer.specs.Rows.{rowsText, headText, tailText, WholeRows}
@@ -29,14 +26,6 @@ head-length m p =
       length-append (digitsOf m) (10 ∷ []),
       length-append (policyName p) (10 ∷ []),
     )
-
-pub policy-short : (p : ℕ) → length (policyName p) ≤ 6
-unfolding policyName
-policy-short p = go (eqb p 0)
-  where
-    go : (b : Bool) → length (pick b edfWord edfCfWord) ≤ 6
-    go true = omega arith
-    go false = omega arith
 
 all-rows : (word width k n : ℕ) (vs : List ℕ) → length (wordOf word) ≡ k → length vs ≡ n * width → length (rowsText word width vs n) ≡ n * (k + 1) + length (numberFields 9 vs)
 all-rows word width k n vs e h =

@@ -1,12 +1,11 @@
 -- `puts::put_line` meets its contract: the word, behind it the numbers, behind them the newline.
-use Prim.Native.Nat.{ℕ, _+_, _≤_, _<_}
-use mathlib.Core.Path.{_≡_, sym, ap, _∙_}
+use Prim.Native.Nat.{_+_, _≤_, _<_}
+use mathlib.Core.Path.{_∙_}
 use mathlib.Core.List.{map}
 use native.Mathlib.Omega.{arith}
 use lib.ListN.{length, length-set}
 use Rattle.rules.specs.Text.{digitsOf}
-use Rattle.puts.specs.Laid.{Laid}
-use Rattle.puts.specs.Fields.{numberFields, numberLine, wordOf}
+use Rattle.puts.specs.Fields.{numberFields, wordOf}
 use Rattle.puts.proofs.Puts.{laid-byte, laid-then}
 use Rattle.puts.proofs.Lines.{line-end, line-length}
 use Rattle.puts.proofs.put_line.Statement.{statement}

@@ -1,5 +1,5 @@
 -- `puts::put_number` meets its contract: storing the digits of what is left gives the digits of v stored.
-use Prim.Native.Nat.{ℕ, _+_, _-_, _≤_, _/_}
+use Prim.Native.Nat.{ℕ, _+_, _≤_}
 use mathlib.Core.Path.{_≡_, refl, sym, ap, _∙_}
 use borrow.Author.Needs.{needs}
 use native.Mathlib.Omega.{arith}

@@ -1,7 +1,6 @@
 -- `puts::put_numbers` meets its contract: the numbers passed are laid as fields.
-use Prim.Native.Nat.{ℕ, _+_, _-_, _≤_}
-use mathlib.Core.Path.{_≡_, refl, sym, ap, _∙_}
-use mathlib.Core.List.{List, _∷_}
+use Prim.Native.Nat.{_+_, _-_, _≤_}
+use mathlib.Core.Path.{_≡_, refl, _∙_}
 use borrow.Author.Needs.{needs}
 use native.Mathlib.Omega.{arith}
 use lib.ListN.{length, take, getD, length-set}
@@ -9,7 +8,7 @@ use lib.Seq.{take-all}
 use Rattle.rules.specs.Text.{digitsOf}
 use Rattle.puts.specs.Laid.{Laid}
 use Rattle.puts.specs.Fields.{fieldsText, numberFields}
-use Rattle.puts.proofs.Puts.{laid-none, laid-byte, laid-then, laid-length}
+use Rattle.puts.proofs.Puts.{laid-none, laid-byte, laid-then}
 use Rattle.puts.proofs.Lines.{numbers-suc, numbers-le}
 use Rattle.puts.proofs.put_numbers.Statement.{statement}
 use Rattle.puts.proofs.put_numbers.Tie as tie

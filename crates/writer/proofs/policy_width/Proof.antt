@@ -1,7 +1,4 @@
 -- `writer::policy_width` meets its contract.
-use mathlib.Core.Path.{_≡_, sym, ap}
-use Prim.Native.Nat.{ℕ}
-use lib.ListN.{length}
 use borrow.Author.Tests.{ne-eqb}
 use Rattle.rules.specs.Text.{policyName}
 use Rattle.writer.proofs.policy_width.Statement.{statement}

@@ -1,7 +1,6 @@
 -- `writer::put_head` meets its contract: the line of processors, and behind it the policy line in the part from its end on.
 use Prim.Native.Nat.{_+_, _≤_}
-use mathlib.Core.Path.{_≡_, _∙_}
-use mathlib.Core.List.{[], _∷_, _++_}
+use mathlib.Core.List.{[], _∷_}
 use native.Mathlib.Omega.{arith}
 use lib.ListN.{length, length-append}
 use Rattle.rules.specs.Writer.{procsText, policyText}

@@ -1,12 +1,10 @@
 -- `writer::text_length` meets its contract: the sum of what the lines take.
-use Prim.Native.Nat.{_+_, _*_, _≤_}
-use mathlib.Core.Path.{_≡_, sym, _∙_}
+use Prim.Native.Nat.{_*_, _≤_}
 use borrow.Author.Needs.{needs}
 use native.Mathlib.Omega.{arith}
-use lib.ListN.{length}
 use Rattle.puts.proofs.Digits.{at-most-ten}
-use Rattle.puts.proofs.Lines.{numbers-room}
-use Rattle.writer.proofs.Texts.{case-length, policy-short}
+use Rattle.puts.proofs.Lines.{numbers-room, policy-room}
+use Rattle.writer.proofs.Texts.{case-length}
 use borrow.Author.Needs.{needs}
 use Rattle.writer.proofs.text_length.Statement.{statement}
 use Rattle.writer.proofs.text_length.Tie as tie
@@ -19,7 +17,7 @@ first : (c : tie.After-width) → c .width .result ≤ 10
 first c = omega (arith, c .width .ensures, at-most-ten (c .before .before .before .args .procs))
 
 head : (c : tie.After-policy-width) → c .policy-width .result ≤ 6
-head c = omega (arith, c .policy-width .ensures, policy-short (c .before .before .before .before .args .policy))
+head c = omega (arith, c .policy-width .ensures, policy-room (c .before .before .before .before .args .policy))
 
 tasks : (c : tie.After-numbers-width) → c .numbers-width .result ≤ 11 * 96
 tasks c =
