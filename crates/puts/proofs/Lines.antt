@@ -46,18 +46,13 @@ pub numbers-suc : (b : ℕ) (vs : List ℕ) (i : ℕ) → i < length vs → numb
 numbers-suc b vs i h =
     rw (add-one i, take-suc vs i 0 h, numbers-append b (take i vs) (getD vs i 0 ∷ []), numbers-one b (getD vs i 0))
 
--- the bytes of numbers do not depend on the parting byte, and are at most eleven a number
-pub numbers-length : (b d : ℕ) (vs : List ℕ) → length (numberFields b vs) ≡ length (numberFields d vs)
-unfolding fieldsText
-numbers-length b d [] = refl
-numbers-length b d (v ∷ vs) = omega (arith, numbers-length b d vs, length-append (digitsOf v) (numberFields b vs), length-append (digitsOf v) (numberFields d vs))
-
+-- at most eleven bytes a number
 pub numbers-room : (b : ℕ) (vs : List ℕ) → length (numberFields b vs) ≤ 11 * length vs
 unfolding fieldsText
 numbers-room b [] = omega arith
 numbers-room b (v ∷ vs) = omega (arith, numbers-room b vs, length-append (digitsOf v) (numberFields b vs), at-most-ten v)
 
--- as many of the first numbers take no more than all
+-- a number and those before it take no more than all
 pub numbers-le : (b : ℕ) (vs : List ℕ) (i : ℕ) → i < length vs → length (numberFields b (take i vs)) + 1 + length (digitsOf (getD vs i 0)) ≤ length (numberFields b vs)
 unfolding fieldsText
 numbers-le b (v ∷ vs) zero h = omega (arith, length-append (digitsOf v) (numberFields b vs))

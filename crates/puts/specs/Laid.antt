@@ -6,7 +6,7 @@ use mathlib.Core.List.{List}
 use lib.ListN.{length}
 use lib.Seq.{sets}
 
--- the bytes of `text` are stored over `old` from index `at` on, which gives `new`; `end` is the index behind them
+-- the bytes of `text` are stored one by one over `old` from index `at` on, which gives `new`; `end` is the index behind them
 pub record Laid (at : ℕ) (text old new : List ℕ) (end : ℕ) : Type 0 where
   pub behind : end ≡ at + length text
   pub bytes : new ≡ sets old at text

@@ -7,6 +7,34 @@ ghost use Rattle.rules.specs.Text.{digitsOf, policyName};
 ghost use Rattle.puts.specs.Laid.{Laid};
 ghost use Rattle.puts.specs.Fields.{numberFields, numberLine, wordOf};
 
+// The numbers of the line words: five of the case text, six of what is printed.
+pub const PROCS: u32 = 0;
+
+pub const POLICY: u32 = 1;
+
+pub const TASK: u32 = 2;
+
+pub const END: u32 = 3;
+
+pub const RELEASE: u32 = 4;
+
+pub const RUN: u32 = 5;
+
+pub const JOB: u32 = 6;
+
+pub const TOTAL: u32 = 7;
+
+pub const REFUSED: u32 = 8;
+
+pub const COUNT: u32 = 9;
+
+pub const RUNNING: u32 = 10;
+
+// The bytes that part the fields of the case text and of what is printed.
+pub const TAB: u8 = 9;
+
+pub const SPACE: u8 = 32;
+
 // The byte of a digit.
 fn digit(v: u32) -> u8
     requires { ⌜ v < 10 ⌝ }

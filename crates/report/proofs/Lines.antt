@@ -27,8 +27,8 @@ unfolding totalLine totalText
 total-is c = refl
 
 -- ---- no line is too long
-pub short : (word : ℕ) (vs : List ℕ) → length (wordOf word) ≤ 7 → length vs ≤ 34 → length (numberLine 32 word vs) ≤ lineRoom
-short word vs h l = omega (arith, line-length 32 (wordOf word) (map digitsOf vs), numbers-room 32 vs)
+pub line-short : (word : ℕ) (vs : List ℕ) → length (wordOf word) ≤ 7 → length vs ≤ 34 → length (numberLine 32 word vs) ≤ lineRoom
+line-short word vs h l = omega (arith, line-length 32 (wordOf word) (map digitsOf vs), numbers-room 32 vs)
 
 pub verdict-room : (v : ℕ) → length (verdictName v) ≤ 6
 unfolding verdictName

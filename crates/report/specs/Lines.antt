@@ -1,17 +1,23 @@
 -- The printed lines by the numbers that stand in them, and the two lines beside document 01's own: the free count of a task and the
 -- running set of a slot.
-use Prim.Native.Nat.{ℕ, zero, suc, _/_, _%_}
+use Prim.Native.Nat.{ℕ, zero, suc, _/_, _%_, _≤_}
 use mathlib.Core.List.{List, [], _∷_, _++_, map}
 use lib.Dec.{eqb}
 use Rattle.rules.specs.Words.{pick}
 use Rattle.rules.specs.Text.{digitsOf, policyName}
 use Rattle.rules.specs.Writer.{lineText}
 use Rattle.rules.specs.Report.{spaceByte, runWord, totalWord}
+use Rattle.puts.specs.Laid.{Laid}
 use Rattle.puts.specs.Fields.{countWord, runningWord}
 
 -- no printed line is longer than this
 abbrev pub lineRoom : ℕ
 lineRoom = 400
+
+-- a line stands at the start of the lent bytes, and all else is as it was; its length n is returned
+pub record Printed (text old new : List ℕ) (n : ℕ) : Type 0 where
+  pub laid : Laid 0 text old new n
+  pub short : n ≤ lineRoom
 
 -- `run`: policy, processors, tasks, end
 unfoldable pub runText : ℕ → ℕ → ℕ → ℕ → List ℕ

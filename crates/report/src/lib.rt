@@ -8,7 +8,14 @@ ghost use Rattle.rules.specs.Replay.{recordOf};
 ghost use Rattle.rules.specs.Report.{verdictName, finishField, demotionField, jobLine, refusedLine};
 ghost use Rattle.puts.specs.Laid.{Laid};
 ghost use Rattle.puts.specs.Fields.{numberFields};
-ghost use Rattle.report.specs.Lines.{lineRoom, runText, totalText, countLine, membersOf, runningLine};
+ghost use Rattle.report.specs.Lines.{lineRoom, Printed, runText, totalText, countLine, membersOf, runningLine};
+use puts::COUNT;
+use puts::JOB;
+use puts::REFUSED;
+use puts::RUN;
+use puts::RUNNING;
+use puts::SPACE;
+use puts::TOTAL;
 use puts::put_bytes;
 use puts::put_line;
 use puts::put_numbers;
@@ -18,12 +25,12 @@ use puts::put_word;
 // Writes the run line.
 pub fn put_run(out: &mut [u8], policy: u32, procs: u32, tasks: u32, end: u32) -> usize
     requires { ⌜ lineRoom ≤ length (now out) ⌝ }
-    ensures { λ r. ⌜ Laid 0 (runText policy procs tasks end) (now (out .entry)) (now (out .exit)) r ⌝ }
+    ensures { λ r. ⌜ Printed (runText policy procs tasks end) (now (out .entry)) (now (out .exit)) r ⌝ }
 {
-    let at = put_word(out, 5);
-    let numbers_at = put_policy(out, at, 32, policy);
+    let at = put_word(out, RUN);
+    let numbers_at = put_policy(out, at, SPACE, policy);
     let numbers = [procs, tasks, end];
-    let last = put_numbers(out, numbers_at, 32, &numbers);
+    let last = put_numbers(out, numbers_at, SPACE, &numbers);
     out[last] = 10;
     last + 1
 }
@@ -49,7 +56,7 @@ fn put_finish(out: &mut [u8], at: usize, finish: u32) -> usize
         return put_bytes(out, at, b" -");
     }
     let numbers = [finish];
-    put_numbers(out, at, 32, &numbers)
+    put_numbers(out, at, SPACE, &numbers)
 }
 
 // Writes a space and a demotion time, which a record holds as one more, or `-` where never demoted.
@@ -62,7 +69,7 @@ fn put_demotion(out: &mut [u8], at: usize, demotion: u32) -> usize
     }
     let time = demotion - 1;
     let numbers = [time];
-    put_numbers(out, at, 32, &numbers)
+    put_numbers(out, at, SPACE, &numbers)
 }
 
 // Writes the job line of a release: its time, task and deadline, and the numbers of its record.
@@ -76,11 +83,11 @@ pub fn put_job(
     demotion: u32,
 ) -> usize
     requires { ⌜ lineRoom ≤ length (now out) ⌝ }
-    ensures { λ r. ⌜ Laid 0 (jobLine time task due (recordOf verdict finish demotion)) (now (out .entry)) (now (out .exit)) r ⌝ }
+    ensures { λ r. ⌜ Printed (jobLine time task due (recordOf verdict finish demotion)) (now (out .entry)) (now (out .exit)) r ⌝ }
 {
-    let at = put_word(out, 6);
+    let at = put_word(out, JOB);
     let numbers = [time, task, due];
-    let verdict_at = put_numbers(out, at, 32, &numbers);
+    let verdict_at = put_numbers(out, at, SPACE, &numbers);
     let finish_at = put_verdict(out, verdict_at, verdict);
     let demotion_at = put_finish(out, finish_at, finish);
     let last = put_demotion(out, demotion_at, demotion);
@@ -91,28 +98,28 @@ pub fn put_job(
 // Writes the total line.
 pub fn put_total(out: &mut [u8], releases: u32, met: u32, missed: u32, still_open: u32) -> usize
     requires { ⌜ lineRoom ≤ length (now out) ⌝ }
-    ensures { λ r. ⌜ Laid 0 (totalText releases met missed still_open) (now (out .entry)) (now (out .exit)) r ⌝ }
+    ensures { λ r. ⌜ Printed (totalText releases met missed still_open) (now (out .entry)) (now (out .exit)) r ⌝ }
 {
     let numbers = [releases, met, missed, still_open];
-    put_line(out, 32, 7, &numbers)
+    put_line(out, SPACE, TOTAL, &numbers)
 }
 
 // Writes the line of a refusal.
 pub fn put_refused(out: &mut [u8], number: u32, place: u32) -> usize
     requires { ⌜ lineRoom ≤ length (now out) ⌝ }
-    ensures { λ r. ⌜ Laid 0 (refusedLine number place) (now (out .entry)) (now (out .exit)) r ⌝ }
+    ensures { λ r. ⌜ Printed (refusedLine number place) (now (out .entry)) (now (out .exit)) r ⌝ }
 {
     let numbers = [number, place];
-    put_line(out, 32, 8, &numbers)
+    put_line(out, SPACE, REFUSED, &numbers)
 }
 
 // Writes the line of a task's free count.
 pub fn put_count(out: &mut [u8], task: u32, count: u32) -> usize
     requires { ⌜ lineRoom ≤ length (now out) ⌝ }
-    ensures { λ r. ⌜ Laid 0 (countLine task count) (now (out .entry)) (now (out .exit)) r ⌝ }
+    ensures { λ r. ⌜ Printed (countLine task count) (now (out .entry)) (now (out .exit)) r ⌝ }
 {
     let numbers = [task, count];
-    put_line(out, 32, 9, &numbers)
+    put_line(out, SPACE, COUNT, &numbers)
 }
 
 // Writes a space and the task's number if the lowest bit says that it is in the set.
@@ -122,7 +129,7 @@ fn put_member(out: &mut [u8], at: usize, task: u32, bits: u32) -> usize
 {
     if bits % 2 == 1 {
         let number = [task];
-        return put_numbers(out, at, 32, &number);
+        return put_numbers(out, at, SPACE, &number);
     }
     at
 }
@@ -146,11 +153,11 @@ fn put_members(out: &mut [u8], at: usize, set: u32) -> usize
 // Writes the line of a slot's running set.
 pub fn put_running(out: &mut [u8], slot: u32, set: u32) -> usize
     requires { ⌜ lineRoom ≤ length (now out) ⌝ }
-    ensures { λ r. ⌜ Laid 0 (runningLine slot set) (now (out .entry)) (now (out .exit)) r ⌝ }
+    ensures { λ r. ⌜ Printed (runningLine slot set) (now (out .entry)) (now (out .exit)) r ⌝ }
 {
-    let at = put_word(out, 10);
+    let at = put_word(out, RUNNING);
     let number = [slot];
-    let members_at = put_numbers(out, at, 32, &number);
+    let members_at = put_numbers(out, at, SPACE, &number);
     let last = put_members(out, members_at, set);
     out[last] = 10;
     last + 1

@@ -8,6 +8,12 @@ ghost use Rattle.rules.specs.Text.{policyName};
 ghost use Rattle.rules.specs.Writer.{policyText, caseText, writeAnswer, writeBytes};
 ghost use Rattle.puts.specs.Laid.{Laid};
 ghost use Rattle.writer.specs.Rows.{rowsText, headText, tailText, WholeRows};
+use puts::END;
+use puts::POLICY;
+use puts::PROCS;
+use puts::RELEASE;
+use puts::TAB;
+use puts::TASK;
 use puts::numbers_width;
 use puts::put_line;
 use puts::put_policy;
@@ -22,8 +28,8 @@ fn put_policy_line(out: &mut [u8], policy: u32) -> usize
     requires { ⌜ length (policyText policy) ≤ length (now out) ⌝ }
     ensures { λ r. ⌜ Laid 0 (policyText policy) (now (out .entry)) (now (out .exit)) r ⌝ }
 {
-    let at = put_word(out, 1);
-    let end = put_policy(out, at, 9, policy);
+    let at = put_word(out, POLICY);
+    let end = put_policy(out, at, TAB, policy);
     out[end] = 10;
     end + 1
 }
@@ -39,7 +45,7 @@ fn put_rows(out: &mut [u8], at: usize, word: u32, width: usize, rows: usize, vs:
     while i < rows {
         let from = i * width;
         let past = from + width;
-        let n = put_line(&mut out[end..], 9, word, &vs[from..past]);
+        let n = put_line(&mut out[end..], TAB, word, &vs[from..past]);
         end = end + n;
         i += 1;
     }
@@ -62,7 +68,7 @@ fn put_head(out: &mut [u8], procs: u32, policy: u32) -> usize
     ensures { λ r. ⌜ Laid 0 (headText procs policy) (now (out .entry)) (now (out .exit)) r ⌝ }
 {
     let numbers = [procs];
-    let second = put_line(out, 9, 0, &numbers);
+    let second = put_line(out, TAB, PROCS, &numbers);
     let n = put_policy_line(&mut out[second..], policy);
     second + n
 }
@@ -73,8 +79,8 @@ fn put_tail(out: &mut [u8], at: usize, end: u32, trace: &[u32]) -> usize
     ensures { λ r. ⌜ Laid at (tailText end (now (trace .entry))) (now (out .entry)) (now (out .exit)) r ⌝ }
 {
     let numbers = [end];
-    let n = put_line(&mut out[at..], 9, 3, &numbers);
-    put_rows(out, at + n, 4, 2, trace.len() / 2, trace)
+    let n = put_line(&mut out[at..], TAB, END, &numbers);
+    put_rows(out, at + n, RELEASE, 2, trace.len() / 2, trace)
 }
 
 // Writes the text of a case at the start.
@@ -90,15 +96,16 @@ fn put_case(
     ensures { λ r. ⌜ Laid 0 (caseText (caseOf procs policy (now (table .entry)) end (now (trace .entry)))) (now (out .entry)) (now (out .exit)) r ⌝ }
 {
     let tasks = put_head(out, procs, policy);
-    let tail = put_rows(out, tasks, 2, 3, table.len() / 3, table);
+    let tail = put_rows(out, tasks, TASK, 3, table.len() / 3, table);
     put_tail(out, tail, end, trace)
 }
 
-// How long the text of a case is. Beside their words, tabs and newlines the five kinds of line have only numbers and the policy's word.
+// How long the text of a case is: a word and a newline a line, and the fields with their tabs.
 fn text_length(procs: u32, policy: u32, table: &[u32], end: u32, trace: &[u32]) -> usize
     requires { ⌜ WholeRows (now table) (now trace) ⌝ }
     ensures { λ r. ⌜ r ≡ length (caseText (caseOf procs policy (now (table .entry)) end (now (trace .entry)))) ⌝ }
 {
+    // `procs`, `policy` and `end` have one field each, whose tab is counted with the word and the newline
     let head = 7 + width(procs) + 8 + policy_width(policy);
     let tasks = table.len() / 3 * 5 + numbers_width(table);
     let releases = trace.len() / 2 * 8 + numbers_width(trace);

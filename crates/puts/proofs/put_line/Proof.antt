@@ -1,12 +1,11 @@
 -- `puts::put_line` meets its contract: the word, behind it the numbers, behind them the newline.
 use Prim.Native.Nat.{_+_, _≤_, _<_}
-use mathlib.Core.Path.{_∙_}
 use mathlib.Core.List.{map}
 use native.Mathlib.Omega.{arith}
-use lib.ListN.{length, length-set}
+use lib.ListN.{length}
 use Rattle.rules.specs.Text.{digitsOf}
 use Rattle.puts.specs.Fields.{numberFields, wordOf}
-use Rattle.puts.proofs.Puts.{laid-byte, laid-then}
+use Rattle.puts.proofs.Puts.{laid-byte, laid-then, laid-length}
 use Rattle.puts.proofs.Lines.{line-end, line-length}
 use Rattle.puts.proofs.put_line.Statement.{statement}
 use Rattle.puts.proofs.put_line.Tie as tie
@@ -34,14 +33,14 @@ slice-write-out c = last c
 add-result : tie.Need-add-result
 add-result c = omega (arith, last c)
 
-same-length : tie.Need-same-length
-same-length c = simp length-set (c .before .before .put-numbers .kept .0 ∙ c .before .before .before .before .before .before .put-word .kept .0)
-
 returns : tie.Need-returns
 returns c =
     let a = c .before .before .before .before .before .before .before .before .before .before .args in
     rw (← line-end (a .between) (wordOf (a .word)) (map digitsOf (a .vs .now)))
     (laid-then (c .before .before .before .before .before .before .put-word .ensures) (laid-then (c .before .before .put-numbers .ensures) (laid-byte _ 10 _)))
+
+same-length : tie.Need-same-length
+same-length c = laid-length (returns c)
 
 pub put-line-spec : {M : Type 1} → statement M
 put-line-spec =

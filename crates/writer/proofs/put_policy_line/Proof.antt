@@ -1,13 +1,12 @@
 -- `writer::put_policy_line` meets its contract: the word, behind it the policy's, behind that the newline.
 use Prim.Native.Nat.{_+_, _≤_, _<_}
-use mathlib.Core.Path.{_∙_}
 use mathlib.Core.List.{[], _∷_}
 use native.Mathlib.Omega.{arith}
-use lib.ListN.{length, length-set, length-append}
+use lib.ListN.{length, length-append}
 use Rattle.rules.specs.Text.{policyName}
 use Rattle.rules.specs.Writer.{policyText, lineText, moreFields}
 use Rattle.puts.specs.Fields.{wordOf}
-use Rattle.puts.proofs.Puts.{laid-byte, laid-then}
+use Rattle.puts.proofs.Puts.{laid-byte, laid-then, laid-length}
 use Rattle.writer.proofs.put_policy_line.Statement.{statement}
 use Rattle.writer.proofs.put_policy_line.Tie as tie
 
@@ -38,12 +37,12 @@ slice-write-out c = last c
 add-result : tie.Need-add-result
 add-result c = omega (arith, last c)
 
-same-length : tie.Need-same-length
-same-length c = simp length-set (c .before .before .put-policy .kept .0 ∙ c .before .before .before .before .before .before .put-word .kept .0)
-
 returns : tie.Need-returns
 unfolding policyText lineText moreFields wordOf
 returns c = laid-then (c .before .before .before .before .before .before .put-word .ensures) (laid-then (c .before .before .put-policy .ensures) (laid-byte _ 10 _))
+
+same-length : tie.Need-same-length
+same-length c = laid-length (returns c)
 
 pub put-policy-line-spec : {M : Type 1} → statement M
 put-policy-line-spec =
