@@ -4,6 +4,7 @@ use Prim.Native.Nat.{ℕ, zero, suc, _/_, _%_, _≤_}
 use mathlib.Core.List.{List, [], _∷_, _++_, map}
 use lib.Dec.{eqb}
 use Rattle.rules.specs.Words.{pick}
+use Rattle.rules.specs.Slot.{TaskSet}
 use Rattle.rules.specs.Text.{digitsOf, policyName}
 use Rattle.rules.specs.Writer.{lineText}
 use Rattle.rules.specs.Report.{spaceByte, runWord, totalWord}
@@ -48,3 +49,8 @@ membersOf s (suc n) = membersOf s n ++ memberAt s n
 -- `running`: slot, the tasks that run in it in rising order
 unfoldable pub runningLine : ℕ → ℕ → List ℕ
 runningLine slot set = lineText spaceByte runningWord (map digitsOf (slot ∷ membersOf set 32))
+
+-- the tasks of a set, of the first n, in rising order
+unfoldable pub tasksIn : TaskSet → ℕ → List ℕ
+tasksIn s zero = []
+tasksIn s (suc n) = tasksIn s n ++ pick (s n) (suc n ∷ []) []
