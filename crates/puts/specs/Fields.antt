@@ -1,0 +1,39 @@
+-- The parts that lines are made of: fields with their parting byte in front, and the words that a number chooses.
+use Prim.Native.Nat.{ℕ}
+use mathlib.Core.List.{List, [], _∷_, _++_, map}
+use lib.Dec.{eqb}
+use Rattle.rules.specs.Words.{pick}
+use Rattle.rules.specs.Text.{digitsOf, procsWord, policyWord, taskWord, endWord, releaseWord}
+use Rattle.rules.specs.Writer.{lineText}
+use Rattle.rules.specs.Report.{runWord, jobWord, totalWord, refusedWord}
+
+-- fields, each with the byte `between` in front
+unfoldable pub fieldsText : ℕ → List (List ℕ) → List ℕ
+fieldsText between [] = []
+fieldsText between (s ∷ ss) = (between ∷ s) ++ fieldsText between ss
+
+-- numbers as fields
+abbrev pub numberFields : ℕ → List ℕ → List ℕ
+numberFields between vs = fieldsText between (map digitsOf vs)
+
+-- `count` and `running`, the words of the lines of a table's free counts and of a slot's running set
+abbrev pub countWord : List ℕ
+countWord = 99 ∷ 111 ∷ 117 ∷ 110 ∷ 116 ∷ []
+
+abbrev pub runningWord : List ℕ
+runningWord = 114 ∷ 117 ∷ 110 ∷ 110 ∷ 105 ∷ 110 ∷ 103 ∷ []
+
+-- the word of a line by its number: 0 to 4 in the case text, 5 to 10 in what is printed
+unfoldable pub wordOf : ℕ → List ℕ
+wordOf w =
+    pick (eqb w 0) procsWord
+    (pick (eqb w 1) policyWord
+    (pick (eqb w 2) taskWord
+    (pick (eqb w 3) endWord
+    (pick (eqb w 4) releaseWord
+    (pick (eqb w 5) runWord
+    (pick (eqb w 6) jobWord (pick (eqb w 7) totalWord (pick (eqb w 8) refusedWord (pick (eqb w 9) countWord runningWord)))))))))
+
+-- a line of a word and numbers
+abbrev pub numberLine : ℕ → ℕ → List ℕ → List ℕ
+numberLine between word vs = lineText between (wordOf word) (map digitsOf vs)

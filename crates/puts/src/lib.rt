@@ -1,0 +1,159 @@
+// Bytes, decimal numbers, words and lines, written into lent bytes from an index on. Each writer returns the index behind what it wrote.
+ghost use mathlib.Core.Path.{_≡_};
+ghost use mathlib.Core.List.{_∷_};
+ghost use Prim.Native.Nat.{_+_, _<_, _≤_};
+ghost use lib.ListN.{length};
+ghost use Rattle.rules.specs.Text.{digitsOf, policyName};
+ghost use Rattle.puts.specs.Laid.{Laid};
+ghost use Rattle.puts.specs.Fields.{numberFields, numberLine, wordOf};
+
+// The numbers of the line words: five of the case text, six of what is printed.
+pub const PROCS: u32 = 0;
+
+pub const POLICY: u32 = 1;
+
+pub const TASK: u32 = 2;
+
+pub const END: u32 = 3;
+
+pub const RELEASE: u32 = 4;
+
+pub const RUN: u32 = 5;
+
+pub const JOB: u32 = 6;
+
+pub const TOTAL: u32 = 7;
+
+pub const REFUSED: u32 = 8;
+
+pub const COUNT: u32 = 9;
+
+pub const RUNNING: u32 = 10;
+
+// The bytes that part the fields of the case text and of what is printed.
+pub const TAB: u8 = 9;
+
+pub const SPACE: u8 = 32;
+
+// The byte of a digit.
+fn digit(v: u32) -> u8
+    requires { ⌜ v < 10 ⌝ }
+    ensures { λ r. ⌜ r ≡ 48 + v ⌝ }
+{
+    48 + v as u8
+}
+
+// How many digits v has.
+pub fn width(v: u32) -> usize
+    ensures { λ r. ⌜ r ≡ length (digitsOf v) ⌝ }
+{
+    let mut n: usize = 1;
+    let mut w = v;
+    while 10 <= w {
+        w = w / 10;
+        n += 1;
+    }
+    n
+}
+
+// Writes the decimal digits of v, the last one first.
+pub fn put_number(out: &mut [u8], at: usize, v: u32) -> usize
+    requires { ⌜ at + length (digitsOf v) ≤ length (now out) ⌝ }
+    ensures { λ r. ⌜ Laid at (digitsOf v) (now (out .entry)) (now (out .exit)) r ⌝ }
+{
+    let end = at + width(v);
+    let mut i = end;
+    let mut w = v;
+    while 10 <= w {
+        i -= 1;
+        out[i] = digit(w % 10);
+        w = w / 10;
+    }
+    out[at] = digit(w);
+    end
+}
+
+// Writes the bytes of s.
+pub fn put_bytes(out: &mut [u8], at: usize, s: &[u8]) -> usize
+    requires { ⌜ at + length (now s) ≤ length (now out) ⌝ }
+    ensures { λ r. ⌜ Laid at (now (s .entry)) (now (out .entry)) (now (out .exit)) r ⌝ }
+{
+    let mut i: usize = 0;
+    while i < s.len() {
+        out[at + i] = s[i];
+        i += 1;
+    }
+    at + i
+}
+
+// Writes each number with the byte `between` in front.
+pub fn put_numbers(out: &mut [u8], at: usize, between: u8, vs: &[u32]) -> usize
+    requires { ⌜ at + length (numberFields between (now vs)) ≤ length (now out) ⌝ }
+    ensures { λ r. ⌜ Laid at (numberFields between (now (vs .entry))) (now (out .entry)) (now (out .exit)) r ⌝ }
+{
+    let mut end = at;
+    let mut i: usize = 0;
+    while i < vs.len() {
+        out[end] = between;
+        end = put_number(out, end + 1, vs[i]);
+        i += 1;
+    }
+    end
+}
+
+// How many bytes the numbers take as fields, each with its parting byte.
+pub fn numbers_width(vs: &[u32]) -> usize
+    requires { ⌜ length (now vs) ≤ 10000 ⌝ }
+    ensures { λ r. ⌜ r ≡ length (numberFields 9 (now (vs .entry))) ⌝ }
+{
+    let mut sum: usize = 0;
+    let mut i: usize = 0;
+    while i < vs.len() {
+        sum += 1 + width(vs[i]);
+        i += 1;
+    }
+    sum
+}
+
+// Writes the word of a line, chosen by its number, at the start.
+pub fn put_word(out: &mut [u8], word: u32) -> usize
+    requires { ⌜ length (wordOf word) ≤ length (now out) ⌝ }
+    ensures { λ r. ⌜ Laid 0 (wordOf word) (now (out .entry)) (now (out .exit)) r ⌝ }
+{
+    match word {
+        0 => put_bytes(out, 0, b"procs"),
+        1 => put_bytes(out, 0, b"policy"),
+        2 => put_bytes(out, 0, b"task"),
+        3 => put_bytes(out, 0, b"end"),
+        4 => put_bytes(out, 0, b"release"),
+        5 => put_bytes(out, 0, b"run"),
+        6 => put_bytes(out, 0, b"job"),
+        7 => put_bytes(out, 0, b"total"),
+        8 => put_bytes(out, 0, b"refused"),
+        9 => put_bytes(out, 0, b"count"),
+        _ => put_bytes(out, 0, b"running"),
+    }
+}
+
+// Writes the byte `between` and the word of a policy, chosen by its number.
+pub fn put_policy(out: &mut [u8], at: usize, between: u8, policy: u32) -> usize
+    requires { ⌜ at + 1 + length (policyName policy) ≤ length (now out) ⌝ }
+    ensures { λ r. ⌜ Laid at (between ∷ policyName policy) (now (out .entry)) (now (out .exit)) r ⌝ }
+{
+    out[at] = between;
+    match policy {
+        0 => put_bytes(out, at + 1, b"edf"),
+        _ => put_bytes(out, at + 1, b"edf-cf"),
+    }
+}
+
+// Writes a line of a word and numbers at the start.
+pub fn put_line(out: &mut [u8], between: u8, word: u32, vs: &[u32]) -> usize
+    requires { ⌜ length (numberLine between word (now vs)) ≤ length (now out) ⌝ }
+    ensures { λ r. ⌜ Laid 0 (numberLine between word (now (vs .entry))) (now (out .entry)) (now (out .exit)) r ⌝ }
+{
+    let at = put_word(out, word);
+    let end = put_numbers(out, at, between, vs);
+    out[end] = 10;
+    end + 1
+}

@@ -1,0 +1,53 @@
+-- `report::put_demotion` meets its contract: one less, or `-` where it is 0.
+use mathlib.Core.List.{[], _∷_}
+use Prim.Native.Nat.{_-_}
+use native.Mathlib.Omega.{arith}
+use Rattle.puts.proofs.Lines.{numbers-one, numbers-room}
+use Rattle.report.proofs.Lines.{demotion-some}
+use borrow.Author.Needs.{needs}
+use Rattle.report.proofs.put_demotion.Statement.{statement}
+use Rattle.report.proofs.put_demotion.Tie as tie
+
+slice-aggregate-put-bytes : tie.Need-slice-aggregate-put-bytes
+slice-aggregate-put-bytes c = search needs
+
+put-bytes-requires : tie.Need-put-bytes-requires
+put-bytes-requires c κs = search needs
+
+same-length : tie.Need-same-length
+same-length c = search needs
+
+returns : tie.Need-returns
+returns c =
+    rw (c .before .before .before .before .before .if1 .taken) (c .before .before .put-bytes .ensures)
+
+sub-time : tie.Need-sub-time
+sub-time c = search needs
+
+slice-aggregate-put-numbers : tie.Need-slice-aggregate-put-numbers
+slice-aggregate-put-numbers c = search needs
+
+put-numbers-requires : tie.Need-put-numbers-requires
+put-numbers-requires c κs = omega (arith, numbers-room 32 ((c .before .before .before .before .args .demotion - 1) ∷ []))
+
+same-length-2 : tie.Need-same-length-2
+same-length-2 c = search needs
+
+returns-2 : tie.Need-returns-2
+returns-2 c =
+    let v = c .before .before .before .before .before .before .before .args .demotion in
+    rw (demotion-some v (c .before .before .before .before .before .if1 .left), ← numbers-one 32 (c .before .before .before .before .before .before .before .args .demotion - 1)) (c .before .before .put-numbers .ensures)
+
+pub put-demotion-spec : {M : Type 1} → statement M
+put-demotion-spec =
+    tie.close
+    (tie.spec
+    slice-aggregate-put-bytes
+    put-bytes-requires
+    same-length
+    returns
+    sub-time
+    slice-aggregate-put-numbers
+    put-numbers-requires
+    same-length-2
+    returns-2)

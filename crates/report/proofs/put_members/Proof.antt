@@ -1,0 +1,72 @@
+-- `report::put_members` meets its contract: the members among the tasks passed are laid, and the bits left are those of the others.
+use mathlib.Core.Path.{_≡_, refl, ap, _∙_}
+use Prim.Native.Nat.{_-_, _/_, _≤_}
+use native.Mathlib.Omega.{arith}
+use lib.ListN.{length}
+use Rattle.puts.specs.Laid.{Laid}
+use Rattle.puts.specs.Fields.{fieldsText, numberFields}
+use Rattle.puts.proofs.Puts.{laid-none, laid-then}
+use Rattle.report.specs.Lines.{halved, membersOf}
+use Rattle.report.proofs.Lines.{members-none, members-suc, members-room, halved-none, halved-suc}
+use Rattle.report.proofs.put_members.Statement.{statement}
+use Rattle.report.proofs.put_members.Tie as tie
+
+abbrev Inv-loop : tie.InvT-loop
+Inv-loop out₀ at set end₀ bits₀ i₀ out end bits i =
+    (i ≤ 32) × (length out ≡ length out₀) × (bits ≡ halved i set) × Laid at (numberFields 32 (membersOf set i)) out₀ out end
+
+abbrev μ-loop : tie.MeasureT-loop
+μ-loop out₀ at set end₀ bits₀ i₀ out end bits i = 32 - i
+
+loop-holds : tie.Need-loop-holds Inv-loop μ-loop
+unfolding fieldsText
+loop-holds c = rw (members-none, halved-none) (omega arith, refl, refl, laid-none _ _)
+
+add-put-member : tie.Need-add-put-member Inv-loop μ-loop
+add-put-member c = omega arith
+
+put-member-requires : tie.Need-put-member-requires Inv-loop μ-loop
+put-member-requires c κs =
+    let l = c .before .before .loop in
+    omega (arith, l .inv .3 .behind, members-room (c .before .before .before .before .args .set) (l .i))
+
+add-i : tie.Need-add-i Inv-loop μ-loop
+add-i c = omega arith
+
+loop-less : tie.Need-loop-less Inv-loop μ-loop
+loop-less c = omega arith
+
+loop-again : tie.Need-loop-again Inv-loop μ-loop
+loop-again c =
+    let put = c .before .before .put-member in
+    let l = c .before .before .before .before .before .loop in
+    let set = c .before .before .before .before .before .before .before .args .set in (
+      omega arith,
+      put .kept .0 ∙ l .inv .1,
+      rw (halved-suc set (l .i)) (ap (λ b. b / 2) (l .inv .2)),
+      rw (members-suc set (l .i)) (laid-then (l .inv .3) (rw (l .inv .2) at (put .ensures))),
+    )
+
+same-length : tie.Need-same-length Inv-loop μ-loop
+same-length c = c .before .loop .inv .1
+
+returns : tie.Need-returns Inv-loop μ-loop
+returns c =
+    let l = c .before .loop in
+    let e : l .i ≡ 32 = omega arith in
+    rw e at (l .inv .3)
+
+pub put-members-spec : {M : Type 1} → statement M
+put-members-spec =
+    tie.close
+    (tie.spec
+    Inv-loop
+    μ-loop
+    loop-holds
+    add-put-member
+    put-member-requires
+    add-i
+    loop-less
+    loop-again
+    same-length
+    returns)

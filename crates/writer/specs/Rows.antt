@@ -1,0 +1,34 @@
+-- The text of a case in three parts: the lines before the tasks, those of rows of lent numbers (three a task, two a release), and those
+-- from the end line on.
+use Prim.Native.Nat.{ℕ, _*_, _≤_}
+use mathlib.Core.Path.{_≡_}
+use mathlib.Core.List.{List, _++_}
+use lib.ListN.{length, take, drop}
+use Rattle.rules.specs.Words.{tab}
+use Rattle.rules.specs.Case.{taskCount, releaseCount}
+use Rattle.rules.specs.Text.{tabByte}
+use Rattle.rules.specs.Writer.{joinedText, procsText, policyText, endText}
+use Rattle.puts.specs.Fields.{numberLine}
+
+-- the line of row i, of `width` numbers
+unfoldable pub rowText : ℕ → ℕ → List ℕ → ℕ → List ℕ
+rowText word width vs i = numberLine tabByte word (take width (drop (i * width) vs))
+
+-- the lines of the first n rows
+unfoldable pub rowsText : ℕ → ℕ → List ℕ → ℕ → List ℕ
+rowsText word width vs n = joinedText (tab (rowText word width vs) 0 n)
+
+-- the lines of processors and policy
+unfoldable pub headText : ℕ → ℕ → List ℕ
+headText m p = procsText m ++ policyText p
+
+-- the end line and the lines of the releases
+unfoldable pub tailText : ℕ → List ℕ → List ℕ
+tailText e rs = endText e ++ rowsText 4 2 rs (releaseCount rs)
+
+-- a table and a trace of whole rows, and of no more than a case may have
+pub record WholeRows (ts rs : List ℕ) : Type 0 where
+  pub tasks : length ts ≡ taskCount ts * 3
+  pub releases : length rs ≡ releaseCount rs * 2
+  pub few : taskCount ts ≤ 32
+  pub few′ : releaseCount rs ≤ 2000
