@@ -1,9 +1,8 @@
-pub mod Numbers
 pub mod Order
 pub mod Places
 pub mod Queues
 pub mod Choice
 pub mod Marks
 pub mod Stirs
-pub mod Opens
+pub mod Slots
 pub mod Works

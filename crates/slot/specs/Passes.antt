@@ -14,7 +14,7 @@ use Rattle.rules.specs.declared.Task.{Task}
 use Rattle.rules.specs.declared.Run.{Run}
 use Rattle.slot.specs.declared.Stirred.{Stirred}
 use Rattle.slot.specs.declared.Worked.{Worked}
-use Rattle.slot.specs.Queues.{keyOf}
+use Rattle.slot.specs.Queues.{keyOf, Queued}
 
 -- ---- the first pass
 -- a task with the job that step 2 gives it
@@ -29,11 +29,12 @@ readiedTask table i free released now t = pick released (startedTask table i fre
 abbrev pub sunkTask : Bool → Task → Task
 sunkTask low t = pick low (withJob t (Demoted (leftOf (t .job)) (dueOf (t .job)))) t
 
--- what the first pass answers
-pub record Stirs (g : Setup) (now : ℕ) (released : TaskSet) (r : Run) (s : Stirred) : Type 0 where
+-- what the first pass answers, with the keys in the queue
+pub record Stirs (g : Setup) (now : ℕ) (released : TaskSet) (r : Run) (keys : List ℕ) (s : Stirred) : Type 0 where
   pub run : s .run ≡ demoted g (readied g now released r)
   pub missed : s .missed ≡ tab (missed g now released r) 0 32
   pub demoted : s .demoted ≡ tab (demotedNow g now released r) 0 32
+  pub queue : Queued (g .policy) now (s .run) keys (s .jobs)
 
 -- ---- the last pass
 -- step 4, where `calm` says that free counts go down

@@ -89,10 +89,10 @@ module _ (g : Setup) (now : ℕ) (d : Run) (h : Full d) where
 
 -- ---- the slot, from what its passes answer
 -- the queue, the limit and whether the slot is calm, of the run after step 3
-pub record Looked (g : Setup) (now : ℕ) (d : Run) (calm : Bool) (limit : ℕ) (keys : List ℕ) (n : ℕ) : Type 0 where
-  pub queue : Queued (g .policy) now d keys n
-  pub least : limit ≡ limitOf (g .procs) keys n
-  pub quiet : calm ≡ (eqb (g .policy) 1 && leb n (g .procs))
+record Looked (g : Setup) (now : ℕ) (d : Run) (calm : Bool) (limit : ℕ) (keys : List ℕ) (n : ℕ) : Type 0 where
+  queue : Queued (g .policy) now d keys n
+  greatest : limit ≡ limitOf (g .procs) keys n
+  quiet : calm ≡ (eqb (g .policy) 1 && leb n (g .procs))
 
 module _ (g : Setup) (now : ℕ) (d : Run) (full : Full d) (some : 1 ≤ g .procs) (calm : Bool) (limit : ℕ) (keys : List ℕ) (n : ℕ) (q : Looked g now d calm limit keys n) where
   calm-as : calms g d ≡ calm
@@ -100,30 +100,31 @@ module _ (g : Setup) (now : ℕ) (d : Run) (full : Full d) (some : 1 ≤ g .proc
   calm-as = ap (λ z. isCf g && leb z (g .procs)) (sym (q .queue .all)) ∙ sym (q .quiet)
 
   chosen-as : (i : ℕ) → i < 32 → chosen g now (lowered g d) i ≡ runsBy (g .policy) now limit i (jobAt d i)
-  chosen-as i l = same-chosen g now d full i l ∙ chosen-by g now d keys n some (q .queue) i l ∙ ap (λ z. runsBy (g .policy) now z i (jobAt d i)) (sym (q .least))
+  chosen-as i l = same-chosen g now d full i l ∙ chosen-by g now d keys n some (q .queue) i l ∙ ap (λ z. runsBy (g .policy) now z i (jobAt d i)) (sym (q .greatest))
 
   ends-as : worked (chosen g now (lowered g d)) (lowered g d) ≡ eachTask (λ i t. endedTask calm (runsBy (g .policy) now limit i (t .job)) t) d
   ends-as =
       ends g now d full (λ i t. runsBy (g .policy) now limit i (t .job)) chosen-as ∙
       ap (λ b. eachTask (λ i t. endedTask b (runsBy (g .policy) now limit i (t .job)) t) d) calm-as
 
-module _ (g : Setup) (now : ℕ) (s : TaskSet) (r : Run) (full : Full r) (some : 1 ≤ g .procs) (a : Stirred) (p : Stirs g now s r a) where
-  pub stepped : (calm : Bool) (limit : ℕ) (keys : List ℕ) (n : ℕ) → Looked g now (a .run) calm limit keys n → (w : Worked)
+module _ (g : Setup) (now : ℕ) (s : TaskSet) (r : Run) (full : Full r) (some : 1 ≤ g .procs) (keys : List ℕ) (a : Stirred) (p : Stirs g now s r keys a) where
+  pub stepped : (calm : Bool) (limit : ℕ) → calm ≡ (eqb (g .policy) 1 && leb (a .jobs) (g .procs)) → limit ≡ limitOf (g .procs) keys (a .jobs) → (w : Worked)
       → Works (g .policy) now calm limit (a .run) w
       → Stepped g now s r (record { run = w .run; ran = w .ran; finished = w .finished; missed = a .missed; demoted = a .demoted })
   unfolding after opened ran finished
-  stepped calm limit keys n q w v =
+  stepped calm limit c m w v =
       let f = demoted-full g _ (readied-full g now s r full) in
+      let q : Looked g now (a .run) calm limit keys (a .jobs) = record { queue = p .queue; greatest = m; quiet = c } in
       let k = rw (p .run) at q in
       let x = rw (p .run) at v in
       record {
-        run = x .run ∙ sym (ends-as g now _ f some calm limit keys n k);
-        ran = x .ran ∙ tab-cong _ _ 0 32 (λ i u l. sym (chosen-as g now _ f some calm limit keys n k i (omega arith)));
+        run = x .run ∙ sym (ends-as g now _ f some calm limit keys (a .jobs) k);
+        ran = x .ran ∙ tab-cong _ _ 0 32 (λ i u l. sym (chosen-as g now _ f some calm limit keys (a .jobs) k i (omega arith)));
         finished =
             x .finished ∙
             tab-cong _ _ 0 32
             (λ i u l.
-            sym (ap₂ (λ a z. a && lastUnit z) (chosen-as g now _ f some calm limit keys n k i (omega arith)) (kept g now _ f i (omega arith) .left)));
+            sym (ap₂ (λ a z. a && lastUnit z) (chosen-as g now _ f some calm limit keys (a .jobs) k i (omega arith)) (kept g now _ f i (omega arith) .left)));
         missed = p .missed;
         demoted = p .demoted;
       }
