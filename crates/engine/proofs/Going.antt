@@ -13,14 +13,14 @@ use borrow.Author.Tests.{lt-leb, eqb-true}
 use Rattle.rules.specs.declared.Run.{Run}
 use Rattle.rules.specs.Words.{tab, firstIn}
 use Rattle.rules.specs.Case.{Case, taskCount, deadline, releaseCount, timeOf, nameOf}
-use Rattle.rules.specs.Slot.{TaskSet, Setup, jobAt, isMissed, isCf, isDemotedNow, judged, joinedTask, joined, readied, demoted, lowered, opened, after, ran, finished, missed, demotedNow}
+use Rattle.rules.specs.Slot.{TaskSet, Setup, jobAt, isMissed, isCf, isDemotedNow, judged, joinedTask, joined, readied, demoted, lowered, opened, after, ran, finished, missed, demotedNow, jobsNow}
 use Rattle.rules.specs.Replay.{setupIn, releasedIn, releasedAt, fresh, stateFrom, stateAt, ranAt, finishedAt, missedAt, demotedAt, slotsBy, finishBy, demotionBy, verdictBy, recordBy, numbers}
 use Rattle.rules.specs.Calls.{roomAfter}
 use Rattle.bridge.specs.Lists.{mapFrom-cong, tab-long, tab-at, tab-cong}
 use Rattle.bridge.specs.Steps.{Full, judged-full}
 use Rattle.bridge.specs.Stands.{state-full, state-next}
 use Rattle.bridge.specs.Legal.{Legal}
-use Rattle.bridge.specs.Records.{taskAt, good-at}
+use Rattle.bridge.specs.Records.{taskAt, good-at, at-first}
 use Rattle.bridge.specs.Turn.{lastPlace, Reached}
 use Rattle.bridge.specs.Events.{turn-event}
 use Rattle.bridge.specs.Notes.{numbers-long, noteTo, noted-all}
@@ -30,7 +30,8 @@ use Rattle.slot.specs.Stepped.{Stepped}
 use Rattle.slot.specs.declared.Slotted.{Slotted}
 use Rattle.engine.specs.declared.Walk.{Walk}
 use Rattle.engine.specs.declared.Turn.{Turn}
-use Rattle.engine.specs.Walks.{Orderly, places, releases, Walking, Turns, Roomy, openRecord}
+use Rattle.engine.specs.Walks.{Orderly, places, releases, Walking, Rests, Turns, Roomy, openRecord}
+use Rattle.engine.proofs.Quiet.{none-left, still-walking, still-records}
 
 pub orderly : (c : Case) → Legal c → Orderly (c .trace)
 orderly c g = record { named = λ j h. (g .named j h .0, omega (arith, g .named j h .1, g .tasks-few)); sorted = g .in-order }
@@ -42,6 +43,7 @@ walking-none c w r p k = record {
   run = r;
   reached = rw k (record { within = omega arith; before = λ j h. absurd (omega arith); behind = λ j x y. omega arith });
   place = rw k p;
+  idle = λ e i l. at-first c i l;
 }
 
 -- ---- one slot
@@ -114,10 +116,10 @@ module _ (c : Case) (g : Legal c) (clock : ℕ) (w : Walk) (v : Walking c clock 
 
   -- the walk after the slot, and the slot's sets
   pub turned : (u : Turn) (s : Slotted) → Stepped (setupIn c) clock (λ i. getD rel i false) (w .run) s → u .walk .run ≡ s .run
-      → u .ran ≡ s .ran → u .finished ≡ s .finished → u .demoted ≡ s .demoted
+      → u .walk .idle ≡ eqb (s .jobs) 0 → u .ran ≡ s .ran → u .finished ≡ s .finished → u .demoted ≡ s .demoted
       → Reached (c .trace) (u .walk .next) (suc clock) → u .walk .place ≡ places (c .trace) (u .walk .next) → Turns c clock u
   unfolding ranAt finishedAt demotedAt
-  turned u s q a b d f k p =
+  turned u s q a x b d f k p =
       let S = stateAt c clock in
       let full = state-full c clock in
       let G = setupIn c in
@@ -128,6 +130,8 @@ module _ (c : Case) (g : Legal c) (clock : ℕ) (w : Walk) (v : Walking c clock 
           run = a ∙ z .run ∙ after-same G clock (λ i. getD rel i false) R S full rel-at ∙ sym (state-next c clock);
           reached = k;
           place = p;
+          idle = λ e. none-left c clock
+              (ap (λ (y : Run). jobsNow (demoted G y)) (sym (readied-same G clock (λ i. getD rel i false) R S full rel-at)) ∙ sym (z .jobs) ∙ eqb-true (s .jobs) 0 (sym x ∙ e));
         };
         ran = b ∙ z .ran ∙ tab-cong _ _ 0 32 (λ i x y. ran-same G clock (λ i. getD rel i false) R S full rel-at i);
         finished = d ∙ z .finished ∙ tab-cong _ _ 0 32 (λ i x y. finished-same G clock (λ i. getD rel i false) R S full rel-at i);
@@ -181,6 +185,18 @@ module _ (c : Case) (g : Legal c) (rest : List ℕ) (clock : ℕ) (walk : Walk) 
         noted-all c g clock (u .walk .next) (t .walk .reached) (u .walk .place) (u .walk .run) (u .finished) (u .demoted)
         (record { at-place = place-at; at-next = t .walk .run; at-fin = fin-at; at-dem = dem-at }) rest;
   })
+
+-- a slot that rests is passed over
+pub going-on : (c : Case) (g : Legal c) (rest : List ℕ) (clock : ℕ) (walk : Walk) (out : List ℕ) → Going c rest clock walk out → clock < c .end
+    → Rests (c .trace) (walk .next) (walk .idle) clock → Going c rest (clock + 1) walk out
+going-on c g rest clock walk out v more r = rw (add-one clock) (record {
+  within = omega arith;
+  walks = still-walking c g clock walk (v .walks) (r .idle) (r .later);
+  at-out =
+      v .at-out ∙
+      ap (λ l. numbers l ++ rest) (tab-cong (recordBy c clock) (recordBy c (suc clock)) 0 _
+      (λ j p q. sym (still-records c g clock walk (v .walks) (r .idle) (r .later) j (omega arith))));
+})
 
 -- ---- before the loop and after it: the room past the records is what it was
 opened-long : (n : ℕ) → length (numbers (tab (λ j. openRecord) 0 n)) ≡ n * 3

@@ -9,6 +9,7 @@ use Rattle.rules.specs.Limits.{maxTasks}
 use Rattle.rules.specs.Case.{Case, releaseCount, timeOf, nameOf}
 use Rattle.rules.specs.Slot.{jobAt, isMissed}
 use Rattle.rules.specs.Replay.{releasedIn, stateAt, ranAt, finishedAt, demotedAt, Record, recordOf}
+use Rattle.rules.specs.declared.Job.the-variants.{Idle}
 use Rattle.rules.specs.declared.Run.{Run}
 use Rattle.bridge.specs.Turn.{lastPlace, Reached}
 use Rattle.bridge.specs.Events.{event}
@@ -28,11 +29,17 @@ places rs k = tab (λ i. lastPlace rs k (suc i)) 0 maxTasks
 abbrev pub releases : List ℕ → ℕ → ℕ → List Bool
 releases rs k t = tab (releasedIn rs k t) 0 maxTasks
 
--- at time t, before step 1: the state, the releases that have been, and their places
+-- at time t, before step 1: the state, the releases that have been, their places, and what is known of idle tasks
 pub record Walking (c : Case) (t : ℕ) (w : Walk) : Type 0 where
   pub run : w .run ≡ stateAt c t
   pub reached : Reached (c .trace) (w .next) t
   pub place : w .place ≡ places (c .trace) (w .next)
+  pub idle : w .idle ≡ true → (i : ℕ) → i < maxTasks → jobAt (stateAt c t) i ≡ Idle
+
+-- the slot at t has nothing to do: every task is idle, and the next release is not of this time
+pub record Rests (rs : List ℕ) (next : ℕ) (still : Bool) (t : ℕ) : Type 0 where
+  pub idle : still ≡ true
+  pub later : next < releaseCount rs → timeOf rs next ≡ t → ⊥
 
 -- after the slot at t: how the walk stands, and the slot's sets
 pub record Turns (c : Case) (t : ℕ) (u : Turn) : Type 0 where

@@ -16,7 +16,7 @@ ghost use Rattle.counts.specs.Needs.{Counts};
 ghost use Rattle.bridge.specs.Turn.{Reached};
 ghost use Rattle.bridge.specs.Events.{event, entry};
 ghost use Rattle.bridge.specs.Notes.{put3, noteTo};
-ghost use Rattle.engine.specs.Walks.{Orderly, places, releases, Roomy, Walking, Turns, openRecord};
+ghost use Rattle.engine.specs.Walks.{Orderly, places, releases, Rests, Roomy, Walking, Turns, openRecord};
 use rules::Replayed;
 use rules::Run;
 use rules::Running;
@@ -61,11 +61,13 @@ fn take_releases(trace: &[u32], from: usize, clock: u32, before: [usize; 32]) ->
 
 // ---- one slot of a case
 
-// Where a replay stands: the run, the place of each task's last release, and the first release still to come.
+// Where a replay stands: the run, the place of each task's last release, the first release still to come, and whether every task is
+// known to be idle.
 pub struct Walk {
     pub run: Run,
     pub place: [usize; 32],
     pub next: usize,
+    pub idle: bool,
 }
 
 fn start() -> Walk
@@ -76,7 +78,22 @@ fn start() -> Walk
         run: run,
         place: [0; 32],
         next: 0,
+        idle: true,
     }
+}
+
+// Whether the slot at `clock` has nothing to do, so that it can be passed over.
+fn rests(trace: &[u32], next: usize, idle: bool, clock: u32) -> bool
+    ensures { λ r. ⌜ (r ≡ true → Rests (now (trace .entry)) next idle clock) ⌝ }
+{
+    let n = trace.len() / 2;
+    if idle {
+        if next < n {
+            return trace[next * 2] != clock;
+        }
+        return true;
+    }
+    false
 }
 
 // Where it stands after a slot, and the sets that ran, finished and were demoted in it.
@@ -115,6 +132,7 @@ fn next_turn(
         run: after,
         place: places,
         next: a.next,
+        idle: s.jobs == 0,
     };
     Turn {
         walk: walk,
@@ -231,13 +249,15 @@ fn replay_run(
     let mut walk = start();
     let mut clock: u32 = 0;
     while clock < end {
-        let t = next_turn(procs, policy, table, counts, end, trace, walk, clock);
-        walk = t.walk;
-        let place = walk.place;
-        let run = walk.run;
-        let finished = t.finished;
-        let demoted = t.demoted;
-        note_all(out, place, run, finished, demoted, clock);
+        if !rests(trace, walk.next, walk.idle, clock) {
+            let t = next_turn(procs, policy, table, counts, end, trace, walk, clock);
+            walk = t.walk;
+            let place = walk.place;
+            let run = walk.run;
+            let finished = t.finished;
+            let demoted = t.demoted;
+            note_all(out, place, run, finished, demoted, clock);
+        }
         clock += 1;
     }
 }
@@ -303,8 +323,10 @@ fn walk_to(
     let mut walk = start();
     let mut clock: u32 = 0;
     while clock < time {
-        let t = next_turn(procs, policy, table, counts, end, trace, walk, clock);
-        walk = t.walk;
+        if !rests(trace, walk.next, walk.idle, clock) {
+            let t = next_turn(procs, policy, table, counts, end, trace, walk, clock);
+            walk = t.walk;
+        }
         clock += 1;
     }
     walk

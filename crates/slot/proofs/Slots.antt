@@ -110,8 +110,8 @@ module _ (g : Setup) (now : ℕ) (d : Run) (full : Full d) (some : 1 ≤ g .proc
 module _ (g : Setup) (now : ℕ) (s : TaskSet) (r : Run) (full : Full r) (some : 1 ≤ g .procs) (keys : List ℕ) (a : Stirred) (p : Stirs g now s r keys a) where
   pub stepped : (calm : Bool) (limit : ℕ) → calm ≡ (eqb (g .policy) 1 && leb (a .jobs) (g .procs)) → limit ≡ limitOf (g .procs) keys (a .jobs) → (w : Worked)
       → Works (g .policy) now calm limit (a .run) w
-      → Stepped g now s r (record { run = w .run; ran = w .ran; finished = w .finished; missed = a .missed; demoted = a .demoted })
-  unfolding after opened ran finished
+      → Stepped g now s r (record { run = w .run; ran = w .ran; finished = w .finished; missed = a .missed; demoted = a .demoted; jobs = a .jobs })
+  unfolding after opened ran finished jobsNow
   stepped calm limit c m w v =
       let f = demoted-full g _ (readied-full g now s r full) in
       let q : Looked g now (a .run) calm limit keys (a .jobs) = record { queue = p .queue; greatest = m; quiet = c } in
@@ -127,4 +127,5 @@ module _ (g : Setup) (now : ℕ) (s : TaskSet) (r : Run) (full : Full r) (some :
             sym (ap₂ (λ a z. a && lastUnit z) (chosen-as g now _ f some calm limit keys (a .jobs) k i (omega arith)) (kept g now _ f i (omega arith) .left)));
         missed = p .missed;
         demoted = p .demoted;
+        jobs = k .queue .all;
       }

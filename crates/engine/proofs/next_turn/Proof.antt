@@ -17,9 +17,9 @@ step-requires c κs =
 
 returns : tie.Need-returns
 returns c =
-    let q = c .before .before .before .before .before .before .before .before .before .before .before .before .pre in
-    let a = c .before .before .before .before .before .before .before .take-releases .ensures in
-    turned _ (legal _ (q .0)) _ _ (q .2) (q .3) _ (a .2) _ _ (c .before .before .before .before .before .step .ensures) refl refl refl refl (a .0) (a .1)
+    let q = c .before .before .before .before .before .before .before .before .before .before .before .before .before .pre in
+    let a = c .before .before .before .before .before .before .before .before .take-releases .ensures in
+    turned _ (legal _ (q .0)) _ _ (q .2) (q .3) _ (a .2) _ _ (c .before .before .before .before .before .before .step .ensures) refl refl refl refl refl (a .0) (a .1)
 
 pub next-turn-spec : {M : Type 1} → statement M
 next-turn-spec = tie.close (tie.spec take-releases-requires step-requires returns)
