@@ -30,6 +30,7 @@ pub struct Gathered {
     pub releases: usize,
 }
 
+// The kind of a line by its number; 0 where it is badly formed.
 pub fn kind_of(l: Line) -> u32
     ensures { λ r. ⌜ r ≡ kindOf l ⌝ }
 {
