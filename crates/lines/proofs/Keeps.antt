@@ -3,10 +3,10 @@ use mathlib.Core.Path.{_≡_, refl, sym, ap, ap₂, _∙_}
 use mathlib.Core.List.{List, [], _∷_, _++_, append-nil}
 use Prim.Native.Nat.{ℕ, zero, suc, _≤_}
 use native.Mathlib.Omega.{arith}
-use lib.ListN.{length, take, length-take}
+use lib.ListN.{take, length-take}
 use lib.Seq.{take-take, take-all}
 use Rattle.rules.specs.Case.{Case, caseOf}
-use Rattle.rules.specs.Reader.{noCase, withLine, withLines, caseIn, linesOf}
+use Rattle.rules.specs.Reader.{withLine, withLines, caseIn, linesOf}
 use Rattle.rules.specs.declared.Line.{Line}
 use Rattle.rules.specs.declared.Line.the-variants.{Bad, Procs, Policy, Row, End, Release}
 use Rattle.lines.specs.declared.Head.{Head}
@@ -21,7 +21,8 @@ abbrev with-head : Head → List ℕ → List ℕ → Case
 with-head h ts rs = caseOf (h .procs) (h .policy) ts (h .end) rs
 
 -- what is kept with one more line
-line-kept : (c : Case) (l : Line) → clip (withLine c l) ≡ with-head (headWith (headOf (c .procs) (c .policy) (c .end)) l) (take tableRoom (c .table ++ rowNumbers l)) (take traceRoom (c .trace ++ releaseNumbers l))
+line-kept : (c : Case) (l : Line)
+    → clip (withLine c l) ≡ with-head (headWith (headOf (c .procs) (c .policy) (c .end)) l) (take tableRoom (c .table ++ rowNumbers l)) (take traceRoom (c .trace ++ releaseNumbers l))
 unfolding clip withLine
 line-kept c Bad = rw (append-nil (c .table), append-nil (c .trace))
 line-kept c (Procs m) = rw (append-nil (c .table), append-nil (c .trace))

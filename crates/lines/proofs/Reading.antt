@@ -1,7 +1,7 @@
 -- The state of the reader's loop between two lines: the answer of the whole text is that of what is kept and what is unread.
 use mathlib.Core.Path.{_≡_, refl, sym, ap, ap₂, _∙_}
 use mathlib.Core.List.{List, [], _∷_}
-use Prim.Native.Nat.{ℕ, suc, _+_, _≤_, _<_}
+use Prim.Native.Nat.{ℕ, _+_, _≤_, _<_}
 use native.Mathlib.Numerals.{add-one}
 use native.Mathlib.Omega.{arith}
 use lib.ListN.{length, drop, length-drop, drop-of-length-le}
@@ -12,7 +12,6 @@ use Rattle.rules.specs.Reader.{kindOf, mayStop, linesOf, linesFault, withLines,
 use Rattle.rules.specs.declared.Fault.{Fault}
 use Rattle.rules.specs.declared.Line.{Line}
 use Rattle.lines.specs.declared.Head.{Head}
-use Rattle.lines.specs.declared.Gathered.{Gathered}
 use Rattle.lines.specs.Held.{tableRoom, traceRoom, clip, lineFault, nextSays, noHead, headWith, rowNumbers, releaseNumbers, Whole, Added, keptCase, Gathers}
 use Rattle.lines.proofs.Unread.{lines-none, lines-next}
 use Rattle.lines.proofs.Faults.{fault-here, fault-later, fault-stop}
@@ -57,7 +56,8 @@ module _ (s : List ℕ) (h : Head) (t r b n at : ℕ) (table trace : List ℕ) (
       }
 
   -- the next line, of kind k, is read
-  pub reading-on : (said : Line) (k : ℕ) (f : Fault) (h′ : Head) (t′ r′ at′ : ℕ) (table′ trace′ : List ℕ) → at < length s → said ≡ nextSays (drop at s) → k ≡ kindOf said → f ≡ lineFault b k n → f .number ≡ 0
+  pub reading-on : (said : Line) (k : ℕ) (f : Fault) (h′ : Head) (t′ r′ at′ : ℕ) (table′ trace′ : List ℕ) → at < length s
+      → said ≡ nextSays (drop at s) → k ≡ kindOf said → f ≡ lineFault b k n → f .number ≡ 0
       → drop at′ s ≡ afterLine (drop at s) → at < at′ → at′ ≤ length s → h′ ≡ headWith h said
       → Added tableRoom taskWidth t (rowNumbers said) table t′ table′ → Added traceRoom releaseWidth r (releaseNumbers said) trace r′ trace′
       → Reading s h′ t′ r′ k (n + 1) at′ table′ trace′

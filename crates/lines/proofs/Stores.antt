@@ -2,7 +2,7 @@
 use mathlib.Core.Path.{_≡_, refl, sym, ap, _∙_}
 use mathlib.Core.List.{List, [], _∷_, _++_, append-nil}
 use mathlib.Core.Logic.{⊎-elim}
-use Prim.Native.Nat.{ℕ, suc, _+_, _%_, _≤_, _<_}
+use Prim.Native.Nat.{ℕ, suc, _+_, _%_, _≤_}
 use native.Mathlib.Numerals.{add-one}
 use native.Mathlib.Omega.{arith}
 use lib.ListN.{length, take, drop, set, length-append, length-take}
@@ -48,7 +48,8 @@ module _ (room width n : ℕ) (old : List ℕ) (w : Whole room width n old) wher
       }
 
   -- a task's three numbers, and a release's two
-  pub adds-three : (new : List ℕ) (a b d : ℕ) → new ≡ a ∷ b ∷ d ∷ [] → n + 3 ≤ room → (n + 3) % width ≡ 0 → Added room width n new old (n + 3) (set (set (set old n a) (n + 1) b) (n + 2) d)
+  pub adds-three : (new : List ℕ) (a b d : ℕ) → new ≡ a ∷ b ∷ d ∷ [] → n + 3 ≤ room → (n + 3) % width ≡ 0
+      → Added room width n new old (n + 3) (set (set (set old n a) (n + 1) b) (n + 2) d)
   adds-three new a b d e l m =
       let k : n + 2 ≡ suc (suc n) = omega arith in
       rw e (adds-some (a ∷ b ∷ d ∷ []) (set (set (set old n a) (n + 1) b) (n + 2) d) (n + 3) (omega arith) l m (rw (add-one n, k)))

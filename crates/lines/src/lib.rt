@@ -30,7 +30,8 @@ pub struct Gathered {
     pub releases: usize,
 }
 
-pub fn kind_of(l: Line) -> u32
+// The kind of a line by its number; 0 where it is badly formed.
+fn kind_of(l: Line) -> u32
     ensures { λ r. ⌜ r ≡ kindOf l ⌝ }
 {
     match l {
@@ -48,7 +49,7 @@ pub fn kind_of(l: Line) -> u32
 }
 
 // What the line at `at` says, badly formed where it has no newline, and where the next one starts.
-pub fn next_line(text: &[u8], at: usize) -> Step
+fn next_line(text: &[u8], at: usize) -> Step
     requires { ⌜ at < length (now text) ⌝ }
     ensures { λ r. ⌜ (r .said ≡ nextSays (drop at (now (text .entry)))) × (drop (r .next) (now (text .entry)) ≡ afterLine (drop at (now (text .entry)))) × (at < r .next) × (r .next ≤ length (now (text .entry))) ⌝ }
 {
@@ -66,7 +67,7 @@ pub fn next_line(text: &[u8], at: usize) -> Step
 }
 
 // What is at fault with line n, of that kind, after a line of kind `before`: 2 before 3.
-pub fn line_fault(before: u32, kind: u32, n: u32) -> Fault
+fn line_fault(before: u32, kind: u32, n: u32) -> Fault
     ensures { λ r. ⌜ r ≡ lineFault before kind n ⌝ }
 {
     if kind == 0 {
@@ -79,7 +80,7 @@ pub fn line_fault(before: u32, kind: u32, n: u32) -> Fault
 }
 
 // A text that stops after a line of that kind lacks line n, unless it may stop there.
-pub fn stop_fault(before: u32, n: u32) -> Fault
+fn stop_fault(before: u32, n: u32) -> Fault
     ensures { λ r. ⌜ r ≡ unless (mayStop before) 3 n ⌝ }
 {
     if before == 4 {
@@ -92,7 +93,7 @@ pub fn stop_fault(before: u32, n: u32) -> Fault
 }
 
 // The head before the first line; without a policy line the policy is EDF.
-pub fn no_head() -> Head
+fn no_head() -> Head
     ensures { λ r. ⌜ r ≡ noHead ⌝ }
 {
     Head {
@@ -103,7 +104,7 @@ pub fn no_head() -> Head
 }
 
 // The head with what one more line says.
-pub fn head_with(h: Head, l: Line) -> Head
+fn head_with(h: Head, l: Line) -> Head
     ensures { λ r. ⌜ r ≡ headWith h l ⌝ }
 {
     match l {
@@ -133,7 +134,7 @@ pub fn head_with(h: Head, l: Line) -> Head
 }
 
 // Puts a task's numbers behind the n that are kept, where there is room, and returns how many are kept now.
-pub fn keep_row(table: &mut [u32], n: usize, l: Line) -> usize
+fn keep_row(table: &mut [u32], n: usize, l: Line) -> usize
     requires { ⌜ Whole tableRoom 3 n (now table) ⌝ }
     ensures { λ r. ⌜ Added tableRoom 3 n (rowNumbers l) (now (table .entry)) r (now (table .exit)) ⌝ }
 {
@@ -155,7 +156,7 @@ pub fn keep_row(table: &mut [u32], n: usize, l: Line) -> usize
 }
 
 // Puts a release's numbers behind the n that are kept, where there is room, and returns how many are kept now.
-pub fn keep_release(trace: &mut [u32], n: usize, l: Line) -> usize
+fn keep_release(trace: &mut [u32], n: usize, l: Line) -> usize
     requires { ⌜ Whole traceRoom 2 n (now trace) ⌝ }
     ensures { λ r. ⌜ Added traceRoom 2 n (releaseNumbers l) (now (trace .entry)) r (now (trace .exit)) ⌝ }
 {

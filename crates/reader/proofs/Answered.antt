@@ -1,5 +1,5 @@
 -- What the reader answers and what its rooms hold then, by what is found at fault: before the lines, in them, in the case, nowhere.
-use mathlib.Core.Path.{_≡_, refl, sym, ap, ap₂, _∙_}
+use mathlib.Core.Path.{_≡_, refl, sym, ap, _∙_}
 use mathlib.Core.Bool.{Bool, true, false}
 use mathlib.Core.List.{List, [], _∷_, _++_}
 use Prim.Native.Nat.{ℕ, _*_, _/_, _≤_}
@@ -73,7 +73,8 @@ module _ (s : List ℕ) (t r : ℕ) where
   after-lines e q = after-start e ∙ ap (λ (g : Fault). orNext g noFault) (next-none _ _ q)
 
   -- the case is at fault
-  pub at-case : (f : Fault) → startFault (length s) t r .number ≡ 0 → linesFault 0 1 (linesOf s) .number ≡ 0 → f ≡ caseFault (caseIn s) → (f .number ≡ 0 → ⊥) → readFault s t r ≡ f
+  pub at-case : (f : Fault) → startFault (length s) t r .number ≡ 0 → linesFault 0 1 (linesOf s) .number ≡ 0 → f ≡ caseFault (caseIn s)
+      → (f .number ≡ 0 → ⊥) → readFault s t r ≡ f
   at-case f e q p h =
       after-lines e q ∙ rw (← p) (ap (λ (g : Fault). orNext g noFault) (next-some f _ h) ∙ next-some f _ h)
 
@@ -87,7 +88,8 @@ Answers s tasks releases a tasks′ releases′ = (a ≡ readAnswer s tasks rele
 
 module _ (s tasks releases : List ℕ) where
   -- a refusal: its number and place, and the rooms as they were
-  pub refuses : (f : Fault) (a : Answer) → readFault s (length tasks) (length releases) ≡ f → (f .number ≡ 0 → ⊥) → a ≡ refusal (f .number) (f .place) → Answers s tasks releases a tasks releases
+  pub refuses : (f : Fault) (a : Answer) → readFault s (length tasks) (length releases) ≡ f → (f .number ≡ 0 → ⊥) → a ≡ refusal (f .number) (f .place)
+      → Answers s tasks releases a tasks releases
   unfolding readAnswer readTasks readReleases settled kept
   refuses f a e h p = rw (e, ne-eqb (f .number) 0 h) (p, (refl, refl))
 

@@ -1,9 +1,9 @@
 -- The loop that copies numbers to the front of a room: it writes the room in order towards those numbers and what stood after them.
-use mathlib.Core.Path.{_≡_, refl, sym, ap, _∙_}
+use mathlib.Core.Path.{_≡_, refl, sym, _∙_}
 use mathlib.Core.List.{List, _++_}
 use Prim.Native.Nat.{ℕ, _+_, _≤_, _<_}
 use native.Mathlib.Omega.{arith}
-use lib.ListN.{length, take, drop, getD, set, length-append, length-drop, length-set, List·getD-append}
+use lib.ListN.{length, drop, getD, set, length-append, length-drop, length-set, List·getD-append}
 use lib.Seq.{take-append-seam}
 use Rattle.bridge.specs.Fill.{Filling, filling-none, filling-store}
 

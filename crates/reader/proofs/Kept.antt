@@ -1,5 +1,5 @@
 -- What was gathered of a text with no line at fault: its case, as far as it matters, and with no fault in the case all of it.
-use mathlib.Core.Path.{_≡_, refl, sym, ap, ap₂, _∙_}
+use mathlib.Core.Path.{_≡_, sym, ap, _∙_}
 use mathlib.Core.List.{List, [], _∷_, _++_}
 use Prim.Native.Nat.{ℕ, _-_, _/_, _≤_}
 use native.Mathlib.Nat.{sub-zero}
@@ -24,7 +24,9 @@ kept-long room width n xs w = length-take-le n xs (omega (arith, w .long, w .wit
 
 module _ (s : List ℕ) (g : Gathered) (table trace : List ℕ) (w : Gathers s g table trace) (good : g .fault .number ≡ 0) where
   -- the check of what is kept is that of the case
-  pub same-fault : (f : Fault) → f ≡ caseFault (caseOf (g .head .procs) (g .head .policy) (take (g .tasks - 0) table) (g .head .end) (take (g .releases - 0) trace)) → f ≡ caseFault (caseIn s)
+  pub same-fault : (f : Fault)
+      → f ≡ caseFault (caseOf (g .head .procs) (g .head .policy) (take (g .tasks - 0) table) (g .head .end) (take (g .releases - 0) trace))
+      → f ≡ caseFault (caseIn s)
   same-fault f e = e ∙ rw (sub-zero, sub-zero) (ap caseFault (sym (w .kept good)) ∙ clip-fault (caseIn s))
 
   module _ (clear : caseFault (caseIn s) .number ≡ 0) where
@@ -40,32 +42,33 @@ module _ (s : List ℕ) (g : Gathered) (table trace : List ℕ) (w : Gathers s g
         let r : length (caseIn s .trace) ≡ g .releases = ap (λ (c : Case). length (c .trace)) same-case ∙ kept-long _ _ (g .releases) trace (w .releases) in
         (omega (arith, l .tasks-few, w .tasks .even), omega (arith, l .releases-few, w .releases .even))
 
--- the whole way to an accepted text: nothing at fault before the lines, in the lines, in the case
-module _ (s ts rs : List ℕ) (a : Fault) (g : Gathered) (table trace : List ℕ) (d : Fault) (first : a ≡ startFault (length s) (length ts) (length rs)) (first-none : a .number ≡ 0)
-    (w : Gathers s g table trace) (lines-none : g .fault .number ≡ 0)
-    (last : d ≡ caseFault (caseOf (g .head .procs) (g .head .policy) (take (g .tasks - 0) table) (g .head .end) (take (g .releases - 0) trace))) (last-none : d .number ≡ 0) where
-  start-clear : startFault (length s) (length ts) (length rs) .number ≡ 0
-  start-clear = ap (λ (f : Fault). f .number) (sym first) ∙ first-none
+-- an accepted text: nothing is at fault before the lines, in the lines, in the case
+pub record Accepts (s ts rs : List ℕ) (g : Gathered) (table trace : List ℕ) : Type 0 where
+  pub started : startFault (length s) (length ts) (length rs) .number ≡ 0
+  pub gathered : Gathers s g table trace
+  pub lines-stand : g .fault .number ≡ 0
+  pub case-stands : caseFault (caseIn s) .number ≡ 0
 
-  case-clear : caseFault (caseIn s) .number ≡ 0
-  case-clear = ap (λ (f : Fault). f .number) (sym (same-fault s g table trace w lines-none d last)) ∙ last-none
-
+module _ {s ts rs : List ℕ} {g : Gathered} {table trace : List ℕ} (x : Accepts s ts rs g table trace) where
+  -- its numbers have room
   pub tasks-fit : length (take (g .tasks - 0) table) ≤ length ts
   tasks-fit =
-      rw sub-zero
-      (omega (arith, kept-long _ _ (g .tasks) table (w .tasks), few-numbers s g table trace w lines-none case-clear .0, enough-room s _ _ start-clear .0))
+      let few = few-numbers s g table trace (x .gathered) (x .lines-stand) (x .case-stands) in
+      rw sub-zero (omega (arith, kept-long _ _ (g .tasks) table (x .gathered .tasks), few .0, enough-room s _ _ (x .started) .0))
 
   pub releases-fit : length (take (g .releases - 0) trace) ≤ length rs
   releases-fit =
-      rw sub-zero
-      (omega (arith, kept-long _ _ (g .releases) trace (w .releases), few-numbers s g table trace w lines-none case-clear .1, enough-room s _ _ start-clear .1))
+      let few = few-numbers s g table trace (x .gathered) (x .lines-stand) (x .case-stands) in
+      rw sub-zero (omega (arith, kept-long _ _ (g .releases) trace (x .gathered .releases), few .1, enough-room s _ _ (x .started) .1))
 
+  -- and with them in the rooms the answer is that of the text
   pub all-read : (ts′ rs′ : List ℕ) → ts′ ≡ take (g .tasks - 0) table ++ drop (length (take (g .tasks - 0) table)) ts
       → rs′ ≡ take (g .releases - 0) trace ++ drop (length (take (g .releases - 0) trace)) rs
       → Answers s ts rs (result (g .head .procs ∷ g .head .policy ∷ g .head .end ∷ g .tasks / 3 ∷ g .releases / 2 ∷ [])) ts′ rs′
   all-read ts′ rs′ p q =
+      let w = x .gathered in
       rw (p, q, sub-zero (g .tasks), sub-zero (g .releases))
       (reads s ts rs (keptCase (g .head) (g .tasks) table (g .releases) trace) (g .tasks) (g .releases)
-      (at-none s _ _ start-clear (ap (λ (f : Fault). f .number) (sym (w .fault)) ∙ lines-none) case-clear)
-      (same-case s g table trace w lines-none case-clear)
+      (at-none s _ _ (x .started) (ap (λ (f : Fault). f .number) (sym (w .fault)) ∙ x .lines-stand) (x .case-stands))
+      (same-case s g table trace w (x .lines-stand) (x .case-stands))
       (kept-long _ _ (g .tasks) table (w .tasks)) (kept-long _ _ (g .releases) trace (w .releases)))

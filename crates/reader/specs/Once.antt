@@ -1,9 +1,9 @@
 -- Only one answer of the reader fits: two answers, with the rooms as they leave them, that both meet its contract are the same.
-use mathlib.Core.Path.{_≡_, refl, sym, _∙_}
-use mathlib.Core.List.{List, [], _∷_}
+use mathlib.Core.Path.{_≡_, sym, _∙_}
+use mathlib.Core.List.{List}
 use Prim.Native.Nat.{ℕ}
 use native.Mathlib.Omega.{arith}
-use Rattle.rules.specs.Answers.{Answer, refusal, result, takenAs}
+use Rattle.rules.specs.Answers.{refusal, result, takenAs}
 use Rattle.rules.specs.Reader.{readAnswer, readTasks, readReleases}
 use Rattle.rules.specs.declared.Taken.{Taken}
 use Rattle.rules.specs.declared.Taken.the-variants.{Refused, Read}
@@ -24,5 +24,6 @@ taken-same (Refused n p) (Read m o f t r) e = absurd (never _ _ _ e)
 taken-same (Read m o f t r) (Refused n p) e = absurd (never _ _ _ (sym e))
 taken-same (Read m o f t r) (Read m′ o′ f′ t′ r′) e = cc
 
-pub read-once : (s tasks releases : List ℕ) (a b : Taken) (ta ra tb rb : List ℕ) → Fits s tasks releases a ta ra → Fits s tasks releases b tb rb → (a ≡ b) × (ta ≡ tb) × (ra ≡ rb)
+pub read-once : (s tasks releases : List ℕ) (a b : Taken) (ta ra tb rb : List ℕ) → Fits s tasks releases a ta ra → Fits s tasks releases b tb rb
+    → (a ≡ b) × (ta ≡ tb) × (ra ≡ rb)
 read-once s tasks releases a b ta ra tb rb x y = (taken-same a b (x .answer ∙ sym (y .answer)), x .tasks-exit ∙ sym (y .tasks-exit), x .releases-exit ∙ sym (y .releases-exit))

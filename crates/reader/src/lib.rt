@@ -10,7 +10,7 @@ use rules::Fault;
 use rules::Taken;
 
 // What is at fault before a line is read: the room for 96 task and 4,000 release numbers, then the text's length.
-pub fn start_fault(text: usize, tasks: usize, releases: usize) -> Fault
+fn start_fault(text: usize, tasks: usize, releases: usize) -> Fault
     ensures { λ r. ⌜ r ≡ startFault text tasks releases ⌝ }
 {
     if tasks < 96 {
@@ -26,7 +26,7 @@ pub fn start_fault(text: usize, tasks: usize, releases: usize) -> Fault
 }
 
 // Copies numbers to the front of a room; those after them stay.
-pub fn put_numbers(room: &mut [u32], numbers: &[u32])
+fn put_numbers(room: &mut [u32], numbers: &[u32])
     requires { ⌜ length (now numbers) ≤ length (now room) ⌝ }
     ensures { λ r. ⌜ now (room .exit) ≡ now (numbers .entry) ++ drop (length (now (numbers .entry))) (now (room .entry)) ⌝ }
 {
@@ -38,7 +38,7 @@ pub fn put_numbers(room: &mut [u32], numbers: &[u32])
 }
 
 // A refusal as an answer.
-pub fn refused(f: Fault) -> Taken
+fn refused(f: Fault) -> Taken
     ensures { λ r. ⌜ takenAs r ≡ refusal (f .number) (f .place) ⌝ }
 {
     Taken::Refused {

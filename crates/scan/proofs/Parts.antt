@@ -51,7 +51,8 @@ upTo-le x (b ∷ s) = le-pick (eqb b x) b (upTo x s) s (upTo-le x s)
 pub part-upTo : (x from e : ℕ) (s : List ℕ) → e ≡ from + length (upTo x (drop from s)) → take (e - from) (drop from s) ≡ upTo x (drop from s)
 part-upTo x from e s h = rw (h, add-sub-cancel-left) (take-upTo x (drop from s))
 
-past-pick : (t : Bool) (b : ℕ) (u v s : List ℕ) → (length u < length s → drop (suc (length u)) s ≡ v) → length (pick t [] (b ∷ u)) < length (b ∷ s) → drop (suc (length (pick t [] (b ∷ u)))) (b ∷ s) ≡ pick t s v
+past-pick : (t : Bool) (b : ℕ) (u v s : List ℕ) → (length u < length s → drop (suc (length u)) s ≡ v) → length (pick t [] (b ∷ u)) < length (b ∷ s)
+    → drop (suc (length (pick t [] (b ∷ u)))) (b ∷ s) ≡ pick t s v
 past-pick true b u v s h l = refl
 past-pick false b u v s h l = h (omega arith)
 

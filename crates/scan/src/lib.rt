@@ -48,6 +48,7 @@ pub fn after_field(s: &[u8]) -> &[u8]
     if e < s.len() { &s[e + 1..] } else { &s[e..] }
 }
 
+// A byte as a wider number.
 fn wide(x: u8) -> u32
     ensures { λ r. ⌜ r ≡ x ⌝ }
 {

@@ -1,5 +1,5 @@
 -- `lines::gather` meets its contract: between two lines the answer of the text is that of what is kept and what is unread.
-use mathlib.Core.Path.{_≡_, refl, sym, ap, _∙_}
+use mathlib.Core.Path.{sym, _∙_}
 use native.Mathlib.Omega.{arith}
 use Prim.Native.Nat.{_-_}
 use lib.ListN.{length}
@@ -38,7 +38,10 @@ same-length-2 : tie.Need-same-length-2 Inv-loop μ-loop
 same-length-2 c = c .before .before .before .before .before .loop .inv .releases .long ∙ sym (c .before .before .before .before .before .before .before .before .before .before .pre .2)
 
 returns : tie.Need-returns Inv-loop μ-loop
-returns c = reading-stop _ _ _ _ _ _ _ _ _ (c .before .before .before .before .before .loop .inv) _ _ _ (c .before .before .before .before .loop-test .taken) (c .before .before .before .next-line .ensures .0) (c .before .before .kind-of .ensures) (c .before .line-fault .ensures) (c .if1 .taken)
+returns c =
+    let step = c .before .before .before in
+    let at = step .before .before in
+    reading-stop _ _ _ _ _ _ _ _ _ (at .loop .inv) _ _ _ (step .before .loop-test .taken) (step .next-line .ensures .0) (c .before .before .kind-of .ensures) (c .before .line-fault .ensures) (c .if1 .taken)
 
 head-with-requires : tie.Need-head-with-requires Inv-loop μ-loop
 head-with-requires c κs = search needs
@@ -50,15 +53,22 @@ keep-release-requires : tie.Need-keep-release-requires Inv-loop μ-loop
 keep-release-requires c κs = c .before .before .before .before .before .before .before .before .before .before .before .loop .inv .releases
 
 add-n : tie.Need-add-n Inv-loop μ-loop
-add-n c = omega (arith, c .before .before .before .before .before .before .before .before .before .before .before .before .before .before .loop .inv .counted, c .before .before .before .before .before .before .before .before .before .before .before .before .before .before .loop .inv .within, c .before .before .before .before .before .before .before .before .before .before .before .before .before .before .before .before .before .before .before .pre .0)
+add-n c =
+    let at = c .before .before .before .before .before .before .before .before .before .before .before .before .before .before in
+    omega (arith, at .loop .inv .counted, at .loop .inv .within, at .before .before .before .before .before .pre .0)
 
 loop-less : tie.Need-loop-less Inv-loop μ-loop
 loop-less c = omega (arith, c .before .before .before .before .before .before .before .before .before .before .before .before .next-line .ensures .2, c .before .before .before .before .before .before .before .before .before .before .before .before .next-line .ensures .3)
 
 loop-again : tie.Need-loop-again Inv-loop μ-loop
 loop-again c =
-    let step = c .before .before .before .before .before .before .before .before .before .before .before .before .next-line .ensures in
-    reading-on _ _ _ _ _ _ _ _ _ (c .before .before .before .before .before .before .before .before .before .before .before .before .before .before .loop .inv) _ _ _ _ _ _ _ _ _ (c .before .before .before .before .before .before .before .before .before .before .before .before .before .loop-test .taken) (step .0) (c .before .before .before .before .before .before .before .before .before .before .before .kind-of .ensures) (c .before .before .before .before .before .before .before .before .before .before .line-fault .ensures) (c .before .before .before .before .before .before .before .before .before .if1 .left) (step .1) (step .2) (step .3) (c .before .before .before .before .before .before .before .before .head-with .ensures) (c .before .before .before .before .before .before .keep-row .ensures) (c .before .before .keep-release .ensures)
+    let row = c .before .before .before .before .before .before in
+    let head = row .before .before in
+    let line = head .before .before in
+    let step = line .before .before in
+    let at = step .before .before in
+    reading-on _ _ _ _ _ _ _ _ _ (at .loop .inv) _ _ _ _ _ _ _ _ _ (step .before .loop-test .taken) (step .next-line .ensures .0) (line .before .kind-of .ensures) (line .line-fault .ensures)
+    (head .before .if1 .left) (step .next-line .ensures .1) (step .next-line .ensures .2) (step .next-line .ensures .3) (head .head-with .ensures) (row .keep-row .ensures) (c .before .before .keep-release .ensures)
 
 stop-fault-requires : tie.Need-stop-fault-requires Inv-loop μ-loop
 stop-fault-requires c κs = search needs

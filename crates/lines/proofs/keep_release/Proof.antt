@@ -1,7 +1,7 @@
 -- `lines::keep_release` meets its contract.
-use mathlib.Core.Path.{_≡_, refl, sym, ap, _∙_}
+use mathlib.Core.Path.{ap}
 use native.Mathlib.Omega.{arith}
-use lib.ListN.{length, set, length-set}
+use lib.ListN.{length-set}
 use Rattle.lines.proofs.Stores.{adds-none, adds-past, adds-two, not-release}
 use Rattle.lines.specs.Held.{releaseNumbers}
 use borrow.Author.Needs.{needs}

@@ -1,7 +1,7 @@
 -- `lines::keep_row` meets its contract.
-use mathlib.Core.Path.{_≡_, refl, sym, ap, _∙_}
+use mathlib.Core.Path.{ap}
 use native.Mathlib.Omega.{arith}
-use lib.ListN.{length, set, length-set}
+use lib.ListN.{length-set}
 use Rattle.lines.proofs.Stores.{adds-none, adds-past, adds-three, not-row}
 use Rattle.lines.specs.Held.{rowNumbers}
 use borrow.Author.Needs.{needs}

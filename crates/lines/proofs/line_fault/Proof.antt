@@ -1,5 +1,5 @@
 -- `lines::line_fault` meets its contract.
-use mathlib.Core.Path.{_≡_, refl, sym, ap, _∙_}
+use mathlib.Core.Path.{sym, _∙_}
 use Rattle.lines.proofs.Faults.{line-bad, line-off, line-stands}
 use borrow.Author.Needs.{needs}
 use Rattle.lines.proofs.line_fault.Statement.{statement}

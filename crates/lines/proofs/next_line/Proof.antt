@@ -1,8 +1,6 @@
 -- `lines::next_line` meets its contract.
-use mathlib.Core.Path.{_≡_, refl, sym, ap, _∙_}
+use mathlib.Core.Path.{_∙_}
 use native.Mathlib.Omega.{arith}
-use lib.ListN.{length}
-use Rattle.rules.specs.Reader.{lineSays}
 use Rattle.lines.proofs.Unread.{ended-says, ended-after, last-long, last-says, last-after}
 use borrow.Author.Needs.{needs}
 use Rattle.lines.proofs.next_line.Statement.{statement}

@@ -1,5 +1,4 @@
 -- `lines::stop_fault` meets its contract.
-use mathlib.Core.Path.{_≡_, refl, sym, ap, _∙_}
 use borrow.Author.Tests.{eq-eqb, ne-eqb}
 use Rattle.rules.specs.Reader.{mayStop}
 use borrow.Author.Needs.{needs}

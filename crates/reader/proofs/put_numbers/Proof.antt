@@ -3,7 +3,6 @@ use native.Mathlib.Omega.{arith}
 use Prim.Native.Nat.{_-_}
 use lib.ListN.{length}
 use borrow.Author.Needs.{needs}
-use mathlib.Core.Path.{sym, _∙_}
 use Rattle.reader.proofs.Copies.{Copying, copying-none, copying-on, copying-all}
 use Rattle.reader.proofs.put_numbers.Statement.{statement}
 use Rattle.reader.proofs.put_numbers.Tie as tie

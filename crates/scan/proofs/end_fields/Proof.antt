@@ -1,5 +1,5 @@
 -- `scan::end_fields` meets its contract.
-use mathlib.Core.Path.{_≡_, refl, sym, ap, _∙_}
+use mathlib.Core.Path.{sym, _∙_}
 use Rattle.rules.specs.Reader.{oneNumber}
 use borrow.Author.Needs.{needs}
 use Rattle.scan.proofs.end_fields.Statement.{statement}

@@ -1,5 +1,4 @@
 -- `scan::fields_say` meets its contract: each arm is the choice that its number makes.
-use mathlib.Core.Path.{_≡_, refl, sym, ap, _∙_}
 use borrow.Author.Tests.{ne-eqb}
 use Rattle.rules.specs.Reader.{fieldsSay}
 use borrow.Author.Needs.{needs}

@@ -1,10 +1,15 @@
 -- `scan::release_fields` meets its contract.
-use mathlib.Core.Path.{_≡_, refl, sym, ap, _∙_}
-use Rattle.rules.specs.Text.{numberIn}
+use mathlib.Core.Path.{_≡_, sym, ap, _∙_}
+use Rattle.rules.specs.declared.Num.the-variants.{Value}
+use Rattle.rules.specs.Text.{numberIn, fieldOf}
 use Rattle.rules.specs.Reader.{twoNumbers, oneNumber}
 use borrow.Author.Needs.{needs}
 use Rattle.scan.proofs.release_fields.Statement.{statement}
 use Rattle.scan.proofs.release_fields.Tie as tie
+
+-- the first field is the time
+time-read : (c : tie.After-time) → numberIn (fieldOf (c .before .before .before .before .before .args .s .now)) ≡ Value (c .time .given .0 .0)
+time-read c = ap numberIn (sym (c .before .before .before .field .ensures)) ∙ sym (c .before .before .number .ensures) ∙ c .time .given .1
 
 field-requires : tie.Need-field-requires
 field-requires c κs = search needs
@@ -36,11 +41,11 @@ enum-told-2 c = search needs
 
 returns-2 : tie.Need-returns-2
 unfolding twoNumbers oneNumber
-returns-2 c = rw (ap numberIn (sym (c .before .before .before .before .before .before .before .before .field .ensures)) ∙ sym (c .before .before .before .before .before .before .before .number .ensures) ∙ c .before .before .before .before .before .time .given .1, ap numberIn (sym (c .before .before .before .after-field .ensures)) ∙ sym (c .before .before .number2 .ensures) ∙ c .enum-told2 .given .1)
+returns-2 c = rw (time-read (c .before .before .before .before .before), ap numberIn (sym (c .before .before .before .after-field .ensures)) ∙ sym (c .before .before .number2 .ensures) ∙ c .enum-told2 .given .1)
 
 returns-3 : tie.Need-returns-3
 unfolding twoNumbers oneNumber
-returns-3 c = rw (ap numberIn (sym (c .before .before .before .before .before .before .before .before .before .field .ensures)) ∙ sym (c .before .before .before .before .before .before .before .before .number .ensures) ∙ c .before .before .before .before .before .before .time .given .1, ap numberIn (sym (c .before .before .before .before .after-field .ensures)) ∙ sym (c .before .before .before .number2 .ensures) ∙ c .before .task .given .1)
+returns-3 c = rw (time-read (c .before .before .before .before .before .before), ap numberIn (sym (c .before .before .before .before .after-field .ensures)) ∙ sym (c .before .before .before .number2 .ensures) ∙ c .before .task .given .1)
 
 pub release-fields-spec : {M : Type 1} → statement M
 release-fields-spec =

@@ -1,12 +1,22 @@
 -- `scan::task_fields` meets its contract.
-use mathlib.Core.Path.{_≡_, refl, sym, ap, _∙_}
-use Rattle.rules.specs.Text.{numberIn, fieldOf, afterField}
+use mathlib.Core.Path.{_≡_, sym, ap, _∙_}
 use mathlib.Core.List.{List}
 use Prim.Native.Nat.{ℕ}
+use Rattle.rules.specs.declared.Num.the-variants.{Value}
+use Rattle.rules.specs.Text.{numberIn, fieldOf, afterField}
 use Rattle.rules.specs.Reader.{threeNumbers, twoNumbers, oneNumber}
 use borrow.Author.Needs.{needs}
 use Rattle.scan.proofs.task_fields.Statement.{statement}
 use Rattle.scan.proofs.task_fields.Tie as tie
+
+-- the first field is T
+period-read : (c : tie.After-period) → numberIn (fieldOf (c .before .before .before .before .before .args .s .now)) ≡ Value (c .period .given .0 .0)
+period-read c = ap numberIn (sym (c .before .before .before .field .ensures)) ∙ sym (c .before .before .number .ensures) ∙ c .period .given .1
+
+-- the first field of what follows its tab is C
+execution-read : (c : tie.After-execution)
+    → numberIn (fieldOf (afterField (c .before .before .before .before .before .before .before .before .before .before .before .args .s .now))) ≡ Value (c .execution .given .0 .0)
+execution-read c = ap (λ (z : List ℕ). numberIn (fieldOf z)) (sym (c .before .before .before .before .after-field .ensures)) ∙ ap numberIn (sym (c .before .before .before .field2 .ensures)) ∙ sym (c .before .before .number2 .ensures) ∙ c .execution .given .1
 
 field-requires : tie.Need-field-requires
 field-requires c κs = search needs
@@ -41,7 +51,7 @@ enum-told-2 c = search needs
 
 returns-2 : tie.Need-returns-2
 unfolding threeNumbers twoNumbers oneNumber
-returns-2 c = rw (ap numberIn (sym (c .before .before .before .before .before .before .before .before .before .field .ensures)) ∙ sym (c .before .before .before .before .before .before .before .before .number .ensures) ∙ c .before .before .before .before .before .before .period .given .1, ap (λ (z : List ℕ). numberIn (fieldOf z)) (sym (c .before .before .before .before .after-field .ensures)) ∙ ap numberIn (sym (c .before .before .before .field2 .ensures)) ∙ sym (c .before .before .number2 .ensures) ∙ c .enum-told2 .given .1)
+returns-2 c = rw (period-read (c .before .before .before .before .before .before), ap (λ (z : List ℕ). numberIn (fieldOf z)) (sym (c .before .before .before .before .after-field .ensures)) ∙ ap numberIn (sym (c .before .before .before .field2 .ensures)) ∙ sym (c .before .before .number2 .ensures) ∙ c .enum-told2 .given .1)
 
 after-field-requires-2 : tie.Need-after-field-requires-2
 after-field-requires-2 c κs = search needs
@@ -57,11 +67,15 @@ enum-told-3 c = search needs
 
 returns-3 : tie.Need-returns-3
 unfolding threeNumbers twoNumbers oneNumber
-returns-3 c = rw (ap numberIn (sym (c .before .before .before .before .before .before .before .before .before .before .before .before .before .before .field .ensures)) ∙ sym (c .before .before .before .before .before .before .before .before .before .before .before .before .before .number .ensures) ∙ c .before .before .before .before .before .before .before .before .before .before .before .period .given .1, ap (λ (z : List ℕ). numberIn (fieldOf z)) (sym (c .before .before .before .before .before .before .before .before .before .after-field .ensures)) ∙ ap numberIn (sym (c .before .before .before .before .before .before .before .before .field2 .ensures)) ∙ sym (c .before .before .before .before .before .before .before .number2 .ensures) ∙ c .before .before .before .before .before .execution .given .1, ap (λ (z : List ℕ). numberIn (afterField z)) (sym (c .before .before .before .before .before .before .before .before .before .after-field .ensures)) ∙ ap numberIn (sym (c .before .before .before .after-field2 .ensures)) ∙ sym (c .before .before .number3 .ensures) ∙ c .enum-told3 .given .1)
+returns-3 c =
+    let e = c .before .before .before .before .before in
+    rw (period-read (e .before .before .before .before .before .before), execution-read e, ap (λ (z : List ℕ). numberIn (afterField z)) (sym (e .before .before .before .before .after-field .ensures)) ∙ ap numberIn (sym (c .before .before .before .after-field2 .ensures)) ∙ sym (c .before .before .number3 .ensures) ∙ c .enum-told3 .given .1)
 
 returns-4 : tie.Need-returns-4
 unfolding threeNumbers twoNumbers oneNumber
-returns-4 c = rw (ap numberIn (sym (c .before .before .before .before .before .before .before .before .before .before .before .before .before .before .before .field .ensures)) ∙ sym (c .before .before .before .before .before .before .before .before .before .before .before .before .before .before .number .ensures) ∙ c .before .before .before .before .before .before .before .before .before .before .before .before .period .given .1, ap (λ (z : List ℕ). numberIn (fieldOf z)) (sym (c .before .before .before .before .before .before .before .before .before .before .after-field .ensures)) ∙ ap numberIn (sym (c .before .before .before .before .before .before .before .before .before .field2 .ensures)) ∙ sym (c .before .before .before .before .before .before .before .before .number2 .ensures) ∙ c .before .before .before .before .before .before .execution .given .1, ap (λ (z : List ℕ). numberIn (afterField z)) (sym (c .before .before .before .before .before .before .before .before .before .before .after-field .ensures)) ∙ ap numberIn (sym (c .before .before .before .before .after-field2 .ensures)) ∙ sym (c .before .before .before .number3 .ensures) ∙ c .before .deadline .given .1)
+returns-4 c =
+    let e = c .before .before .before .before .before .before in
+    rw (period-read (e .before .before .before .before .before .before), execution-read e, ap (λ (z : List ℕ). numberIn (afterField z)) (sym (e .before .before .before .before .after-field .ensures)) ∙ ap numberIn (sym (c .before .before .before .before .after-field2 .ensures)) ∙ sym (c .before .before .before .number3 .ensures) ∙ c .before .deadline .given .1)
 
 pub task-fields-spec : {M : Type 1} → statement M
 task-fields-spec =

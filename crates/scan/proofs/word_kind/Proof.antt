@@ -1,5 +1,5 @@
 -- `scan::word_kind` meets its contract.
-use mathlib.Core.Path.{_≡_, refl, sym, ap, _∙_}
+use mathlib.Core.Path.{sym, _∙_}
 use Rattle.rules.specs.Reader.{wordKind}
 use borrow.Author.Needs.{needs}
 use Rattle.scan.proofs.word_kind.Statement.{statement}
@@ -13,7 +13,7 @@ same-bytes-requires c κs = search needs
 
 returns : tie.Need-returns
 unfolding wordKind
-returns c = rw ((sym (c .before .same-bytes .ensures) ∙ c .if1 .taken))
+returns c = rw (sym (c .before .same-bytes .ensures) ∙ c .if1 .taken)
 
 slice-aggregate-same-bytes-2 : tie.Need-slice-aggregate-same-bytes-2
 slice-aggregate-same-bytes-2 c = search needs
@@ -23,7 +23,12 @@ same-bytes-requires-2 c κs = search needs
 
 returns-2 : tie.Need-returns-2
 unfolding wordKind
-returns-2 c = rw ((sym (c .before .before .before .before .same-bytes .ensures) ∙ c .before .before .before .if1 .left), (sym (c .before .same-bytes2 .ensures) ∙ c .if2 .taken))
+returns-2 c =
+    let c1 = c .before .before .before in
+    rw (
+      sym (c1 .before .same-bytes .ensures) ∙ c1 .if1 .left,
+      sym (c .before .same-bytes2 .ensures) ∙ c .if2 .taken,
+    )
 
 slice-aggregate-same-bytes-3 : tie.Need-slice-aggregate-same-bytes-3
 slice-aggregate-same-bytes-3 c = search needs
@@ -33,7 +38,14 @@ same-bytes-requires-3 c κs = search needs
 
 returns-3 : tie.Need-returns-3
 unfolding wordKind
-returns-3 c = rw ((sym (c .before .before .before .before .before .before .before .same-bytes .ensures) ∙ c .before .before .before .before .before .before .if1 .left), (sym (c .before .before .before .before .same-bytes2 .ensures) ∙ c .before .before .before .if2 .left), (sym (c .before .same-bytes3 .ensures) ∙ c .if3 .taken))
+returns-3 c =
+    let c2 = c .before .before .before in
+    let c1 = c2 .before .before .before in
+    rw (
+      sym (c1 .before .same-bytes .ensures) ∙ c1 .if1 .left,
+      sym (c2 .before .same-bytes2 .ensures) ∙ c2 .if2 .left,
+      sym (c .before .same-bytes3 .ensures) ∙ c .if3 .taken,
+    )
 
 slice-aggregate-same-bytes-4 : tie.Need-slice-aggregate-same-bytes-4
 slice-aggregate-same-bytes-4 c = search needs
@@ -43,7 +55,16 @@ same-bytes-requires-4 c κs = search needs
 
 returns-4 : tie.Need-returns-4
 unfolding wordKind
-returns-4 c = rw ((sym (c .before .before .before .before .before .before .before .before .before .before .same-bytes .ensures) ∙ c .before .before .before .before .before .before .before .before .before .if1 .left), (sym (c .before .before .before .before .before .before .before .same-bytes2 .ensures) ∙ c .before .before .before .before .before .before .if2 .left), (sym (c .before .before .before .before .same-bytes3 .ensures) ∙ c .before .before .before .if3 .left), (sym (c .before .same-bytes4 .ensures) ∙ c .if4 .taken))
+returns-4 c =
+    let c3 = c .before .before .before in
+    let c2 = c3 .before .before .before in
+    let c1 = c2 .before .before .before in
+    rw (
+      sym (c1 .before .same-bytes .ensures) ∙ c1 .if1 .left,
+      sym (c2 .before .same-bytes2 .ensures) ∙ c2 .if2 .left,
+      sym (c3 .before .same-bytes3 .ensures) ∙ c3 .if3 .left,
+      sym (c .before .same-bytes4 .ensures) ∙ c .if4 .taken,
+    )
 
 slice-aggregate-same-bytes-5 : tie.Need-slice-aggregate-same-bytes-5
 slice-aggregate-same-bytes-5 c = search needs
@@ -53,11 +74,33 @@ same-bytes-requires-5 c κs = search needs
 
 returns-5 : tie.Need-returns-5
 unfolding wordKind
-returns-5 c = rw ((sym (c .before .before .before .before .before .before .before .before .before .before .before .before .before .same-bytes .ensures) ∙ c .before .before .before .before .before .before .before .before .before .before .before .before .if1 .left), (sym (c .before .before .before .before .before .before .before .before .before .before .same-bytes2 .ensures) ∙ c .before .before .before .before .before .before .before .before .before .if2 .left), (sym (c .before .before .before .before .before .before .before .same-bytes3 .ensures) ∙ c .before .before .before .before .before .before .if3 .left), (sym (c .before .before .before .before .same-bytes4 .ensures) ∙ c .before .before .before .if4 .left), (sym (c .before .same-bytes5 .ensures) ∙ c .if5 .taken))
+returns-5 c =
+    let c4 = c .before .before .before in
+    let c3 = c4 .before .before .before in
+    let c2 = c3 .before .before .before in
+    let c1 = c2 .before .before .before in
+    rw (
+      sym (c1 .before .same-bytes .ensures) ∙ c1 .if1 .left,
+      sym (c2 .before .same-bytes2 .ensures) ∙ c2 .if2 .left,
+      sym (c3 .before .same-bytes3 .ensures) ∙ c3 .if3 .left,
+      sym (c4 .before .same-bytes4 .ensures) ∙ c4 .if4 .left,
+      sym (c .before .same-bytes5 .ensures) ∙ c .if5 .taken,
+    )
 
 returns-6 : tie.Need-returns-6
 unfolding wordKind
-returns-6 c = rw ((sym (c .before .before .before .before .before .before .before .before .before .before .before .before .before .same-bytes .ensures) ∙ c .before .before .before .before .before .before .before .before .before .before .before .before .if1 .left), (sym (c .before .before .before .before .before .before .before .before .before .before .same-bytes2 .ensures) ∙ c .before .before .before .before .before .before .before .before .before .if2 .left), (sym (c .before .before .before .before .before .before .before .same-bytes3 .ensures) ∙ c .before .before .before .before .before .before .if3 .left), (sym (c .before .before .before .before .same-bytes4 .ensures) ∙ c .before .before .before .if4 .left), (sym (c .before .same-bytes5 .ensures) ∙ c .if5 .left))
+returns-6 c =
+    let c4 = c .before .before .before in
+    let c3 = c4 .before .before .before in
+    let c2 = c3 .before .before .before in
+    let c1 = c2 .before .before .before in
+    rw (
+      sym (c1 .before .same-bytes .ensures) ∙ c1 .if1 .left,
+      sym (c2 .before .same-bytes2 .ensures) ∙ c2 .if2 .left,
+      sym (c3 .before .same-bytes3 .ensures) ∙ c3 .if3 .left,
+      sym (c4 .before .same-bytes4 .ensures) ∙ c4 .if4 .left,
+      sym (c .before .same-bytes5 .ensures) ∙ c .if5 .left,
+    )
 
 pub word-kind-spec : {M : Type 1} → statement M
 word-kind-spec =
