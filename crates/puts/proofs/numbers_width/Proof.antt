@@ -12,9 +12,6 @@ use Rattle.puts.proofs.Digits.{at-most-ten}
 use Rattle.puts.proofs.Lines.{numbers-suc}
 use Rattle.puts.proofs.numbers_width.Statement.{statement}
 use Rattle.puts.proofs.numbers_width.Tie as tie
-use Rattle.puts.proofs.numbers_width.Reads as reads
-use Rattle.puts.proofs.numbers_width.Lts as lts
-use Rattle.puts.proofs.width.Reads as width-reads
 
 abbrev Inv-loop : tie.InvT-loop
 Inv-loop vs sum₀ i₀ sum i = (i ≤ length vs) × (sum ≤ 11 * i) × (sum ≡ length (numberFields 9 (take i vs)))

@@ -10,10 +10,6 @@ use Rattle.puts.proofs.Digits.{small, step-length}
 use Rattle.puts.proofs.Puts.{store-digit}
 use Rattle.puts.proofs.put_number.Statement.{statement}
 use Rattle.puts.proofs.put_number.Tie as tie
-use Rattle.puts.proofs.put_number.Reads as reads
-use Rattle.puts.proofs.put_number.Lts as lts
-use Rattle.puts.proofs.digit.Reads as digit-reads
-use Rattle.puts.proofs.width.Reads as width-reads
 
 abbrev Inv-loop : tie.InvT-loop
 Inv-loop out₀ at v end i₀ w₀ out i w =

@@ -8,6 +8,15 @@ use borrow.Author.Needs.{needs}
 use Rattle.report.proofs.put_demotion.Statement.{statement}
 use Rattle.report.proofs.put_demotion.Tie as tie
 
+returns : tie.Need-returns
+returns c =
+    rw (c .before .before .before .before .before .if1 .taken) (c .before .before .put-bytes .ensures)
+
+returns-2 : tie.Need-returns-2
+returns-2 c =
+    let v = c .before .before .before .before .before .before .before .args .demotion in
+    rw (demotion-some v (c .before .before .before .before .before .if1 .left), ← numbers-one 32 (c .before .before .before .before .before .before .before .args .demotion - 1)) (c .before .before .put-numbers .ensures)
+
 slice-aggregate-put-bytes : tie.Need-slice-aggregate-put-bytes
 slice-aggregate-put-bytes c = search needs
 
@@ -16,10 +25,6 @@ put-bytes-requires c κs = search needs
 
 same-length : tie.Need-same-length
 same-length c = search needs
-
-returns : tie.Need-returns
-returns c =
-    rw (c .before .before .before .before .before .if1 .taken) (c .before .before .put-bytes .ensures)
 
 sub-time : tie.Need-sub-time
 sub-time c = search needs
@@ -32,11 +37,6 @@ put-numbers-requires c κs = omega (arith, numbers-room 32 ((c .before .before .
 
 same-length-2 : tie.Need-same-length-2
 same-length-2 c = search needs
-
-returns-2 : tie.Need-returns-2
-returns-2 c =
-    let v = c .before .before .before .before .before .before .before .args .demotion in
-    rw (demotion-some v (c .before .before .before .before .before .if1 .left), ← numbers-one 32 (c .before .before .before .before .before .before .before .args .demotion - 1)) (c .before .before .put-numbers .ensures)
 
 pub put-demotion-spec : {M : Type 1} → statement M
 put-demotion-spec =

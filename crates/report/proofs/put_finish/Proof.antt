@@ -7,6 +7,15 @@ use borrow.Author.Needs.{needs}
 use Rattle.report.proofs.put_finish.Statement.{statement}
 use Rattle.report.proofs.put_finish.Tie as tie
 
+returns : tie.Need-returns
+returns c =
+    rw (c .before .before .before .before .before .if1 .taken) (c .before .before .put-bytes .ensures)
+
+returns-2 : tie.Need-returns-2
+returns-2 c =
+    let v = c .before .before .before .before .before .before .before .args .finish in
+    rw (finish-some v (c .before .before .before .before .before .if1 .left), ← numbers-one 32 (c .before .before .before .before .before .before .before .args .finish)) (c .before .before .put-numbers .ensures)
+
 slice-aggregate-put-bytes : tie.Need-slice-aggregate-put-bytes
 slice-aggregate-put-bytes c = search needs
 
@@ -16,10 +25,6 @@ put-bytes-requires c κs = search needs
 same-length : tie.Need-same-length
 same-length c = search needs
 
-returns : tie.Need-returns
-returns c =
-    rw (c .before .before .before .before .before .if1 .taken) (c .before .before .put-bytes .ensures)
-
 slice-aggregate-put-numbers : tie.Need-slice-aggregate-put-numbers
 slice-aggregate-put-numbers c = search needs
 
@@ -28,11 +33,6 @@ put-numbers-requires c κs = omega (arith, numbers-room 32 (c .before .before .b
 
 same-length-2 : tie.Need-same-length-2
 same-length-2 c = search needs
-
-returns-2 : tie.Need-returns-2
-returns-2 c =
-    let v = c .before .before .before .before .before .before .before .args .finish in
-    rw (finish-some v (c .before .before .before .before .before .if1 .left), ← numbers-one 32 (c .before .before .before .before .before .before .before .args .finish)) (c .before .before .put-numbers .ensures)
 
 pub put-finish-spec : {M : Type 1} → statement M
 put-finish-spec =

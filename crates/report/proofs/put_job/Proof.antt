@@ -1,12 +1,14 @@
 -- `report::put_job` meets its contract: the word, the numbers, the verdict, the two times and the newline, one behind the other.
 use mathlib.Core.List.{[], _∷_, map}
-use Prim.Native.Nat.{_≤_}
+use Prim.Native.Nat.{_+_, _≤_}
 use borrow.Author.Needs.{needs}
 use native.Mathlib.Omega.{arith}
-use lib.ListN.{length}
+use lib.ListN.{length, set}
 use Rattle.rules.specs.Text.{digitsOf}
+use Rattle.rules.specs.Replay.{recordOf}
 use Rattle.rules.specs.Writer.{lineText, moreFields}
 use Rattle.rules.specs.Report.{verdictName, finishField, demotionField, jobLine}
+use Rattle.puts.specs.Laid.{Laid}
 use Rattle.puts.specs.Fields.{wordOf}
 use Rattle.puts.proofs.Puts.{laid-byte, laid-then, laid-length}
 use Rattle.puts.proofs.Lines.{fields-then, numbers-room}
@@ -14,6 +16,29 @@ use Rattle.report.specs.Lines.{lineRoom}
 use Rattle.report.proofs.Lines.{verdict-room, finish-room, demotion-room}
 use Rattle.report.proofs.put_job.Statement.{statement}
 use Rattle.report.proofs.put_job.Tie as tie
+
+-- the line as it is put together
+abbrev start : tie.After-slice-known6 → tie.Start
+start c = c .before .before .before .before .before .before .before .before .before .before .before .before .before .before .before .before .before .before .before .before .before .before
+
+line : (c : tie.After-slice-known6)
+    → Laid 0
+    (jobLine (start c .args .time) (start c .args .task) (start c .args .due) (recordOf (start c .args .verdict) (start c .args .finish) (start c .args .demotion)))
+    (start c .args .out .now)
+    (set (c .before .before .put-demotion .last .0) (c .before .before .put-demotion .result) 10)
+    (c .before .before .put-demotion .result + 1)
+unfolding wordOf jobLine lineText moreFields
+line c =
+    let a = start c .args in
+    let word = c .before .before .before .before .before .before .before .before .before .before .before .before .before .before .before .before .before .before .before .put-word .ensures in
+    let three = c .before .before .before .before .before .before .before .before .before .before .before .before .before .before .put-numbers .ensures in
+    let verdict = c .before .before .before .before .before .before .before .before .before .before .put-verdict .ensures in
+    let finish = c .before .before .before .before .before .before .put-finish .ensures in
+    let demotion = c .before .before .put-demotion .ensures in
+    let numbers = map digitsOf (a .time ∷ a .task ∷ a .due ∷ []) in
+    let words = verdictName (a .verdict) ∷ finishField (a .finish) ∷ demotionField (a .demotion) ∷ [] in
+    rw (← fields-then 32 numbers words)
+    (laid-then word (laid-then three (laid-then verdict (laid-then finish (laid-then demotion (laid-byte _ 10 _))))))
 
 put-word-requires : tie.Need-put-word-requires
 unfolding wordOf
@@ -74,24 +99,10 @@ add-result : tie.Need-add-result
 add-result c = omega (arith, demoted (c .before .before))
 
 returns : tie.Need-returns
-unfolding wordOf jobLine lineText moreFields
-returns c =
-    let a = c .before .before .before .before .before .before .before .before .before .before .before .before .before .before .before .before .before .before .before .before .before .before .args in
-    let worded· = c .before .before .before .before .before .before .before .before .before .before .before .before .before .before .before .before .before .before .before .put-word .ensures in
-    let numbered· = c .before .before .before .before .before .before .before .before .before .before .before .before .before .before .put-numbers .ensures in
-    let judged· = c .before .before .before .before .before .before .before .before .before .before .put-verdict .ensures in
-    let finished· = c .before .before .before .before .before .before .put-finish .ensures in
-    let demoted· = c .before .before .put-demotion .ensures in
-    let numbers = map digitsOf (a .time ∷ a .task ∷ a .due ∷ []) in
-    let words = verdictName (a .verdict) ∷ finishField (a .finish) ∷ demotionField (a .demotion) ∷ [] in
-    record {
-      laid = rw (← fields-then 32 numbers words)
-          (laid-then worded· (laid-then numbered· (laid-then judged· (laid-then finished· (laid-then demoted· (laid-byte _ 10 _))))));
-      short = omega (arith, demoted (c .before .before));
-    }
+returns c = record { laid = line c; short = omega (arith, demoted (c .before .before)) }
 
 same-length : tie.Need-same-length
-same-length c = laid-length (returns c .laid)
+same-length c = laid-length (line c)
 
 pub put-job-spec : {M : Type 1} → statement M
 put-job-spec =

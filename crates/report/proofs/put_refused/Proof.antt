@@ -15,6 +15,12 @@ short : (c : tie.Start) → length (numberLine 32 8 (c .args .number ∷ c .args
 unfolding wordOf
 short c = line-short 8 (c .args .number ∷ c .args .place ∷ []) (omega arith) (omega arith)
 
+returns : tie.Need-returns
+unfolding wordOf refusedLine
+returns c =
+    let put = c .before .before .put-line in
+    record { laid = put .ensures; short = omega (arith, put .ensures .behind, short (c .before .before .before .before .before .before)) }
+
 slice-aggregate-put-line : tie.Need-slice-aggregate-put-line
 slice-aggregate-put-line c = search needs
 
@@ -23,12 +29,6 @@ put-line-requires c κs = omega (arith, short (c .before .before .before))
 
 same-length : tie.Need-same-length
 same-length c = search needs
-
-returns : tie.Need-returns
-unfolding wordOf refusedLine
-returns c =
-    let put = c .before .before .put-line in
-    record { laid = put .ensures; short = omega (arith, put .ensures .behind, short (c .before .before .before .before .before .before)) }
 
 pub put-refused-spec : {M : Type 1} → statement M
 put-refused-spec = tie.close (tie.spec slice-aggregate-put-line put-line-requires same-length returns)

@@ -59,12 +59,12 @@ returns : tie.Need-returns
 unfolding wordOf runText lineText moreFields
 returns c =
     let a = c .before .before .before .before .before .before .before .before .before .before .before .before .before .before .args in
-    let worded· = c .before .before .before .before .before .before .before .before .before .before .before .put-word .ensures in
-    let named· = c .before .before .before .before .before .before .before .put-policy .ensures in
-    let numbered· = c .before .before .put-numbers .ensures in
+    let word = c .before .before .before .before .before .before .before .before .before .before .before .put-word .ensures in
+    let policy = c .before .before .before .before .before .before .before .put-policy .ensures in
+    let three = c .before .before .put-numbers .ensures in
     let numbers = map digitsOf (a .procs ∷ a .tasks ∷ a .end ∷ []) in
     record {
-      laid = rw (← fields-then 32 numbers []) (laid-then worded· (laid-then named· (laid-then numbered· (laid-byte _ 10 _))));
+      laid = rw (← fields-then 32 numbers []) (laid-then word (laid-then policy (laid-then three (laid-byte _ 10 _))));
       short = omega (arith, numbered (c .before .before));
     }
 

@@ -57,13 +57,13 @@ returns : tie.Need-returns
 unfolding wordOf runningLine
 returns c =
     let a = c .before .before .before .before .before .before .before .before .before .before .before .before .before .before .args in
-    let worded· = c .before .before .before .before .before .before .before .before .before .before .before .put-word .ensures in
-    let numbered· = c .before .before .before .before .before .before .put-numbers .ensures in
-    let listed· = c .before .before .put-members .ensures in
+    let word = c .before .before .before .before .before .before .before .before .before .before .before .put-word .ensures in
+    let slot = c .before .before .before .before .before .before .put-numbers .ensures in
+    let tasks = c .before .before .put-members .ensures in
     let members = membersOf (a .set) 32 in
     record {
       laid = rw (← line-end 32 runningWord (map digitsOf (a .slot ∷ members)), numbers-append 32 (a .slot ∷ []) members)
-          (laid-then worded· (laid-then (laid-then numbered· listed·) (laid-byte _ 10 _)));
+          (laid-then word (laid-then (laid-then slot tasks) (laid-byte _ 10 _)));
       short = omega (arith, listed (c .before .before));
     }
 
