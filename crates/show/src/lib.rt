@@ -54,23 +54,28 @@ fn rising_end(room: &[u32], from: usize) -> usize
     end
 }
 
-// A number, and where more than one rise from it `+` and how many they are.
-fn say_rising(first: u32, count: usize) {
-    say(wide(first));
-    if 1 < count {
-        io::write_all(1, b"+");
-        io::print_decimal(1, count as u64);
+// A number of a room, or eight or more that rise from it by one as the first, `+` and how many; and where what follows stands.
+fn say_from(room: &[u32], at: usize) -> usize
+    requires { ⌜ at < length (now room) ⌝ }
+    ensures { λ r. ⌜ (at < r) × (r ≤ length (now (room .entry))) ⌝ }
+{
+    let end = rising_end(room, at);
+    let count = end - at;
+    say(wide(room[at]));
+    if count < 8 {
+        return at + 1;
     }
+    io::write_all(1, b"+");
+    io::print_decimal(1, count as u64);
+    end
 }
 
-// Every number of a room. Those that nobody wrote often rise by one, and take one word then.
+// Every number of a room. Those that nobody wrote often rise by one, which keeps the line short.
 fn say_room(room: &[u32]) {
     io::write_all(1, b" ;");
     let mut at: usize = 0;
     while at < room.len() {
-        let end = rising_end(room, at);
-        say_rising(room[at], end - at);
-        at = end;
+        at = say_from(room, at);
     }
 }
 

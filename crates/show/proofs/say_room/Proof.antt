@@ -21,20 +21,8 @@ write-all-requires c κs = search needs
 loop-holds : tie.Need-loop-holds Inv-loop μ-loop
 loop-holds c = omega arith
 
-rising-end-requires : tie.Need-rising-end-requires Inv-loop μ-loop
-rising-end-requires c κs = search needs
-
-mul-say-rising : tie.Need-mul-say-rising Inv-loop μ-loop
-mul-say-rising c = omega arith
-
-shared-slice-read-say-rising : tie.Need-shared-slice-read-say-rising Inv-loop μ-loop
-shared-slice-read-say-rising c = omega arith
-
-sub-say-rising : tie.Need-sub-say-rising Inv-loop μ-loop
-sub-say-rising c = omega arith
-
-say-rising-requires : tie.Need-say-rising-requires Inv-loop μ-loop
-say-rising-requires c κs = search needs
+say-from-requires : tie.Need-say-from-requires Inv-loop μ-loop
+say-from-requires c κs = search needs
 
 loop-less : tie.Need-loop-less Inv-loop μ-loop
 loop-less c = omega arith
@@ -54,11 +42,7 @@ say-room-spec =
     slice-aggregate-write-all
     write-all-requires
     loop-holds
-    rising-end-requires
-    mul-say-rising
-    shared-slice-read-say-rising
-    sub-say-rising
-    say-rising-requires
+    say-from-requires
     loop-less
     loop-again
     returns)
