@@ -5,7 +5,8 @@
 //   4 TEXT TASKS RELEASES                       the reader
 //   5 procs policy TABLE end TRACE BYTES        the writer
 // A number is decimal and is followed by one byte, a blank or a newline. TABLE, TRACE, ROOM, TASKS and RELEASES are a length and
-// that many numbers, where `7+3` stands for the three numbers 7, 8, 9. TEXT and BYTES are a length and that many bytes as they are.
+// that many numbers, where `7+3` stands for the three numbers 7, 8, 9. TEXT and BYTES are a length and that many bytes as they are;
+// what comes next follows them at once. An input is at most 131,072 bytes.
 ghost use mathlib.Core.Path.{_≡_};
 ghost use Prim.Native.Nat.{_≤_};
 ghost use lib.ListN.{length};
