@@ -1,64 +1,21 @@
 """The calls from C and Rust: abi_test.c runs over the archive of the crate abi,
 and the Rust declarations compile.
 
-The C program is compiled and linked by the kit's own tools, for the same
-target as the archive, so nothing has to be installed and a build that fails is
-a failure.  The kit has no C headers: the few types that thrumcomb.h takes from
-them are put beside it for the build.
+A build that fails is a failure.
 """
 
-import glob
 import os
-import platform
 import re
 import shutil
 import subprocess
 import tempfile
 import unittest
 
-HERE = os.path.dirname(os.path.abspath(__file__))
-ROOT = os.path.dirname(HERE)
-INCLUDE = os.path.join(ROOT, "crates", "abi", "include")
-ARCHIVE = os.path.join(ROOT, "target", "staticlib", "libabi.a")
-TARGET = "x86_64-unknown-linux-gnu"
+from kit import HERE, INCLUDE, build, run
+
 RUST = shutil.which("rustc")
 
-HEADERS = {
-    "stddef.h": "typedef __SIZE_TYPE__ size_t;\n",
-    "stdint.h": "typedef __UINT8_TYPE__ uint8_t;\n"
-                "typedef __UINT32_TYPE__ uint32_t;\n",
-}
-
 CALLS = ["counts", "replay", "running_set", "read", "write"]
-
-
-def kit():
-    """The folder of the kit for this machine, found as tests/exec finds it."""
-    home = os.environ.get("RATTLE_HOME")
-    if not home:
-        rt = shutil.which("rt")
-        if rt is None:
-            raise RuntimeError("rt is not found")
-        home = os.path.dirname(os.path.dirname(os.path.realpath(rt)))
-    return os.path.join(home, "on", platform.machine())
-
-
-def run(*words):
-    """Runs a command to its end; what it printed is in the failure."""
-    done = subprocess.run(words, cwd=ROOT, stdout=subprocess.PIPE,
-                          stderr=subprocess.STDOUT, text=True)
-    if done.returncode != 0:
-        raise RuntimeError(f"{' '.join(words)} ended with status "
-                           f"{done.returncode}:\n{done.stdout}")
-    return done.stdout
-
-
-def archive_is_current():
-    if not os.path.exists(ARCHIVE):
-        return False
-    made = os.path.getmtime(ARCHIVE)
-    sources = glob.glob(os.path.join(ROOT, "crates", "*", "src", "*.rt"))
-    return all(os.path.getmtime(source) <= made for source in sources)
 
 
 def declared(text):
@@ -80,21 +37,7 @@ class FromC(unittest.TestCase):
     def setUpClass(cls):
         cls.folder = tempfile.TemporaryDirectory()
         cls.addClassCleanup(cls.folder.cleanup)
-        place = cls.folder.name
-        for name, text in HEADERS.items():
-            with open(os.path.join(place, name), "w") as file:
-                file.write(text)
-        if not archive_is_current():
-            run("rt", "staticlib", "abi")
-        tools = os.path.join(kit(), "toolchain")
-        compiled = os.path.join(place, "abi_test.o")
-        program = os.path.join(place, "abi_test")
-        run(os.path.join(tools, "bin", "clang"), "--target=" + TARGET,
-            "-std=c99", "-O1", "-pedantic", "-Wall", "-Wextra", "-Werror",
-            "-nostdinc", "-isystem", place, "-I", INCLUDE,
-            "-c", os.path.join(HERE, "abi_test.c"), "-o", compiled)
-        run(os.path.join(kit(), "bin", "rattle-link"), "--target", TARGET,
-            "--toolchain", tools, "-o", program, compiled, ARCHIVE)
+        program = build([os.path.join(HERE, "abi_test.c")], cls.folder.name, "abi_test", "-O1")
         done = subprocess.run([os.path.join(HERE, "exec"), program],
                               stdout=subprocess.PIPE, stderr=subprocess.STDOUT,
                               text=True)
