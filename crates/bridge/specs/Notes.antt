@@ -1,5 +1,5 @@
 -- The records as numbers in the lent room: a store of one record, and the stores of one slot.
-use mathlib.Core.Path.{_≡_, refl, ap, ap₂, sym, _∙_}
+use mathlib.Core.Path.{_≡_, refl, ap, sym, _∙_}
 use mathlib.Core.Bool.{Bool, true, false}
 use mathlib.Core.List.{List, [], _∷_, _++_}
 use Prim.Native.Nat.{ℕ, zero, suc, _+_, _-_, _*_, _≤_, _<_}
@@ -15,6 +15,7 @@ use Rattle.rules.specs.Slot.{jobAt, isMissed, missed}
 use Rattle.rules.specs.Replay.{stateAt, finishedAt, missedAt, demotedAt, Record, recordOf, recordBy, numbers, marked}
 use Rattle.rules.specs.declared.Run.{Run}
 use Rattle.bridge.specs.Lists.{tab-long, tab-at, tab-cong, tab-set}
+use Rattle.bridge.specs.Sums.{sum-cong}
 use Rattle.bridge.specs.Legal.{Legal}
 use Rattle.bridge.specs.Events.{event, entry, turn-event, turn-quiet}
 use Rattle.bridge.specs.Turn.{lastPlace, Reached}
@@ -49,6 +50,14 @@ demotion-at (x ∷ rs) (suc p) rest h =
     let e : suc p * 3 + 2 ≡ suc (suc (suc (p * 3 + 2))) = omega arith in
     rw e (demotion-at rs p rest (omega arith))
 
+finish-at : (rs : List Record) (p : ℕ) (rest : List ℕ) → p < length rs → getD (numbers rs ++ rest) (p * 3 + 1) 0 ≡ getD rs p noRecord .finish
+unfolding numbers
+finish-at [] p rest h = absurd (not-suc-le-zero h)
+finish-at (x ∷ rs) zero rest h = refl
+finish-at (x ∷ rs) (suc p) rest h =
+    let e : suc p * 3 + 1 ≡ suc (suc (suc (p * 3 + 1))) = omega arith in
+    rw e (finish-at rs p rest (omega arith))
+
 verdict-at : (rs : List Record) (p : ℕ) (rest : List ℕ) → p < length rs → getD (numbers rs ++ rest) (p * 3) 0 ≡ getD rs p noRecord .verdict
 unfolding numbers
 verdict-at [] p rest h = absurd (not-suc-le-zero h)
@@ -56,6 +65,23 @@ verdict-at (x ∷ rs) zero rest h = refl
 verdict-at (x ∷ rs) (suc p) rest h =
     let e : suc p * 3 ≡ suc (suc (suc (p * 3))) = omega arith in
     rw e (verdict-at rs p rest (omega arith))
+
+-- the three numbers of release j in a room that holds the records of a case
+module _ (f : ℕ → Record) (n : ℕ) (rest : List ℕ) (j : ℕ) (h : j < n) where
+  held : getD (tab f 0 n) j noRecord ≡ f j
+  held = tab-at f n j noRecord h
+
+  long : j < length (tab f 0 n)
+  long = rw (tab-long f 0 n) h
+
+  pub held-verdict : getD (numbers (tab f 0 n) ++ rest) (j * 3) 0 ≡ f j .verdict
+  held-verdict = verdict-at (tab f 0 n) j rest long ∙ ap (λ (r : Record). r .verdict) held
+
+  pub held-finish : getD (numbers (tab f 0 n) ++ rest) (j * 3 + 1) 0 ≡ f j .finish
+  held-finish = finish-at (tab f 0 n) j rest long ∙ ap (λ (r : Record). r .finish) held
+
+  pub held-demotion : getD (numbers (tab f 0 n) ++ rest) (j * 3 + 2) 0 ≡ f j .demotion
+  held-demotion = demotion-at (tab f 0 n) j rest long ∙ ap (λ (r : Record). r .demotion) held
 
 -- ---- what one slot stores, task by task: the sets that finished and were demoted, and the run after the slot
 unfoldable pub noteOne : ℕ → List ℕ → Run → List Bool → List Bool → ℕ → List ℕ → List ℕ
@@ -150,11 +176,6 @@ module _ (c : Case) (g : Legal c) (t k : ℕ) (w : Reached (c .trace) k (suc t))
       (tab-cong (mixed 32) (recordBy c (suc t)) 0 n (λ j x y. mixed-new 32 j (omega (arith, g .named j (omega arith), g .tasks-few))))
 
 -- ---- totals read off the room
-sum-cong : (f g : ℕ → ℕ) (a l : ℕ) → ((t : ℕ) → f t ≡ g t) → sum f a l ≡ sum g a l
-unfolding sum
-sum-cong f g a zero h = refl
-sum-cong f g a (suc l) h = ap₂ _+_ (sum-cong f g a l h) (h (a + l))
-
 sum-head : (f : ℕ → ℕ) (l : ℕ) → sum f 0 (suc l) ≡ f 0 + sum (λ t. f (suc t)) 0 l
 unfolding sum
 sum-head f zero = omega arith
@@ -167,4 +188,4 @@ marked-in v (x ∷ rs) rest =
     sum-head (λ j. bit (eqb (getD (numbers (x ∷ rs) ++ rest) (j * 3) 0) v)) (length rs) ∙
     ap (λ (z : ℕ). bit (eqb (x .verdict) v) + z)
     (sum-cong (λ j. bit (eqb (getD (numbers (x ∷ rs) ++ rest) (suc j * 3) 0) v)) (λ j. bit (eqb (getD (numbers rs ++ rest) (j * 3) 0) v)) 0 (length rs)
-    (λ j. let e : suc j * 3 ≡ suc (suc (suc (j * 3))) = omega arith in rw e) ∙ marked-in v rs rest)
+    (λ j p q. let e : suc j * 3 ≡ suc (suc (suc (j * 3))) = omega arith in rw e) ∙ marked-in v rs rest)

@@ -1,8 +1,11 @@
 -- How a call settles: a refusal with number and place that leaves its room, or its results; and that only one answer fits.
-use mathlib.Core.Path.{_≡_, ap, sym, _∙_}
+use mathlib.Core.Path.{_≡_, refl, ap, sym, _∙_}
+use mathlib.Core.Bool.{Bool, true, false}
 use mathlib.Core.List.{List}
 use Prim.Native.Nat.{ℕ}
-use borrow.Author.Tests.{eq-eqb, ne-eqb}
+use native.Mathlib.Omega.{arith}
+use lib.Dec.{eqb}
+use borrow.Author.Tests.{eqb-true, eq-eqb, ne-eqb}
 use Rattle.rules.specs.declared.Fault.{Fault}
 use Rattle.rules.specs.declared.Counted.{Counted}
 use Rattle.rules.specs.declared.Counted.the-variants as Counted·
@@ -14,6 +17,7 @@ use Rattle.rules.specs.declared.Taken.{Taken}
 use Rattle.rules.specs.declared.Taken.the-variants as Taken·
 use Rattle.rules.specs.declared.Written.{Written}
 use Rattle.rules.specs.declared.Written.the-variants as Written·
+use Rattle.rules.specs.Words.{pick}
 use Rattle.rules.specs.Answers.{refusal, result, settled, kept, countedAs, replayedAs, runningAs, takenAs, writtenAs}
 
 -- ---- x is what the checks found: a fault, or none
@@ -36,6 +40,18 @@ module _ (x f : Fault) (e : x ≡ f) where
 
   pub clear : x .number ≡ 0 → f .number ≡ 0
   clear h = ap (λ (u : Fault). u .number) (sym e) ∙ h
+
+-- ---- a call that gives results found nothing at fault, and its room is the new one
+pub result-clear : (f : Fault) (vs ws : List ℕ) → settled f vs ≡ result ws → f .number ≡ 0
+unfolding settled
+result-clear f vs ws = go (eqb (f .number) 0) refl
+  where
+    go : (b : Bool) → eqb (f .number) 0 ≡ b → pick b (result vs) (refusal (f .number) (f .place)) ≡ result ws → f .number ≡ 0
+    go true q e = eqb-true _ _ q
+    go false q e = absurd (let z : _≡_ {A = ℕ} 0 1 = cc in omega arith)
+
+pub kept-new : (f : Fault) (new old : List ℕ) → f .number ≡ 0 → kept f new old ≡ new
+kept-new f new old h = sym (puts f f refl new old h)
 
 -- ---- an answer in the document's numbers is that of one case alone
 pub counted-once : (x y : Counted) → countedAs x ≡ countedAs y → x ≡ y

@@ -1,7 +1,7 @@
 -- Part 2 of demand 3 for a course: how the job of a release stands from slot to slot, and that once demoted it finishes by its deadline
 -- where its free count is no more than the contention-free slots up to there.
-use mathlib.Core.Path.{_≡_, refl, ap, sym, _∙_}
-use mathlib.Core.Bool.{Bool, true, false, _&&_, false≢true}
+use mathlib.Core.Path.{_≡_, refl, ap, _∙_}
+use mathlib.Core.Bool.{Bool, true, false, _&&_}
 use mathlib.Core.Logic.{inl, inr}
 use Prim.Native.Nat.{ℕ, zero, suc, _+_, _-_, _≤_, _<_}
 use native.Mathlib.Nat.{add-zero, add-suc}
@@ -14,7 +14,7 @@ use Rattle.rules.specs.Words.{pick, countIn, firstIn}
 use Rattle.rules.specs.Case.{execution, deadline}
 use Rattle.rules.specs.Counts.{freeCount}
 use Rattle.rules.specs.Slot.{jobAt, isPresent, isDemoted, dueOf, isCf, releasedJob, workedJob}
-use Rattle.bridge.specs.Steps.{openedJob, judgedJob}
+use Rattle.bridge.specs.Steps.{judgedJob}
 use Rattle.bridge.specs.Jobs.{Stand, slot-stand, written}
 use Rattle.theory.specs.Course.{Course, Attends, stateIn, contentionFreeIn, demotedIn, finishedIn, finishIn, demotionIn, foundIn, openIn, next-in, present-in, demoted-in, finished-in}
 use Rattle.theory.specs.Story.{story, Attended, none-low}

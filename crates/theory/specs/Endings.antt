@@ -11,7 +11,7 @@ use Rattle.rules.specs.declared.Job.{Job}
 use Rattle.rules.specs.declared.Job.the-variants.{Idle}
 use Rattle.rules.specs.declared.Task.{Task}
 use Rattle.rules.specs.declared.Run.{Run}
-use Rattle.rules.specs.Words.{bit, sum, countIn}
+use Rattle.rules.specs.Words.{bit, countIn}
 use Rattle.rules.specs.Case.{Case, deadline, releaseCount, timeOf, nameOf}
 use Rattle.rules.specs.Slot.{noTask, jobAt, isPresent, dueOf, present, jobsNow, isMissed, withJob, judgedTask, judged, missed}
 use Rattle.rules.specs.Replay.{releasedAt, stateAt, closing, missedAt, slotsBy, finishBy, demotionBy, verdictOf, verdictBy, recordBy}

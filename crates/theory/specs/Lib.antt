@@ -15,3 +15,4 @@ pub mod Instances
 pub mod Past
 pub mod Endings
 pub mod Laws
+pub mod Returned

@@ -1,0 +1,79 @@
+-- Demand 3 said of what the replay call returns: of the numbers in its room, for every answer that meets its contract.
+use mathlib.Core.Path.{_≡_, sym, _∙_}
+use mathlib.Core.List.{List, _++_}
+use Prim.Native.Nat.{ℕ, _+_, _*_, _≤_, _<_}
+use lib.ListN.{length, getD, drop}
+use Rattle.rules.specs.declared.Replayed.{Replayed}
+use Rattle.rules.specs.Words.{countIn}
+use Rattle.rules.specs.Limits.{recordWidth}
+use Rattle.rules.specs.Case.{Case, under, deadline, releaseCount, timeOf}
+use Rattle.rules.specs.Counts.{freeCount}
+use Rattle.rules.specs.Refusals.{caseFault, replayFault, Accepted}
+use Rattle.rules.specs.Replay.{contentionFreeAt, recordBy, records, numbers}
+use Rattle.rules.specs.Answers.{result, replayedAs}
+use Rattle.rules.specs.Calls.{roomAfter, replayAnswer, replayRoom}
+use Rattle.bridge.specs.Legal.{next-clear}
+use Rattle.bridge.specs.Records.{taskAt}
+use Rattle.bridge.specs.Notes.{held-verdict, held-finish, held-demotion}
+use Rattle.bridge.specs.Settled.{result-clear, kept-new}
+use Rattle.bridge.specs.Decided.{Replays}
+use Rattle.theory.specs.Demand3.{dueAt, Judged, free-slots, demoted-meets, edf-met-stays-met}
+
+-- the three numbers that a room holds for release j
+abbrev pub verdictIn : List ℕ → ℕ → ℕ
+verdictIn room j = getD room (j * recordWidth) 0
+
+abbrev pub finishIn : List ℕ → ℕ → ℕ
+finishIn room j = getD room (j * recordWidth + 1) 0
+
+abbrev pub demotionIn : List ℕ → ℕ → ℕ
+demotionIn room j = getD room (j * recordWidth + 2) 0
+
+-- the replay of the case c, lent a room, answered with totals (it refused nothing) and left `later` in the room
+pub record Returned (c : Case) (later : List ℕ) : Type 0 where
+  pub lent : List ℕ
+  pub said : Replayed
+  pub totals : List ℕ
+  pub meets : Replays c lent said later
+  pub gave : replayedAs said ≡ result totals
+
+module _ (c : Case) (later : List ℕ) (w : Returned c later) where
+  clear : replayFault c (length (w .lent)) .number ≡ 0
+  unfolding replayAnswer
+  clear = result-clear (replayFault c (length (w .lent))) _ (w .totals) (sym (w .meets .answer) ∙ w .gave)
+
+  pub accepted : Accepted c
+  unfolding replayFault Accepted
+  accepted = next-clear (caseFault c) _ clear .0
+
+  holds : later ≡ numbers (records c) ++ drop (releaseCount (c .trace) * recordWidth) (w .lent)
+  unfolding replayRoom roomAfter
+  holds = w .meets .left ∙ kept-new (replayFault c (length (w .lent))) _ _ clear
+
+  module _ (j : ℕ) (h : j < releaseCount (c .trace)) where
+    pub verdict-returned : verdictIn later j ≡ recordBy c (c .end) j .verdict
+    verdict-returned = rw holds (held-verdict (recordBy c (c .end)) (releaseCount (c .trace)) _ j h)
+
+    pub finish-returned : finishIn later j ≡ recordBy c (c .end) j .finish
+    finish-returned = rw holds (held-finish (recordBy c (c .end)) (releaseCount (c .trace)) _ j h)
+
+    pub demotion-returned : demotionIn later j ≡ recordBy c (c .end) j .demotion
+    demotion-returned = rw holds (held-demotion (recordBy c (c .end)) (releaseCount (c .trace)) _ j h)
+
+-- 1. at least the free count of the slots from release to deadline are contention-free
+pub returned-free-slots : (c : Case) (later : List ℕ) → Returned c later → (j : ℕ) → Judged c j
+    → freeCount (c .procs) (c .table) (taskAt c j) ≤ countIn (contentionFreeAt c) (timeOf (c .trace) j) (deadline (c .table) (taskAt c j))
+returned-free-slots c later w j h = free-slots c (accepted c later w) j h
+
+-- 2. a job that the room says was demoted is said to be met, with a finish not after its deadline
+pub returned-demoted-meets : (c : Case) (later : List ℕ) → Returned c later → c .policy ≡ 1 → (j : ℕ) → Judged c j → 0 < demotionIn later j
+    → (verdictIn later j ≡ 1) × (timeOf (c .trace) j < finishIn later j) × (finishIn later j ≤ dueAt c j)
+returned-demoted-meets c later w cf j h d =
+    rw (verdict-returned c later w j (h .0), finish-returned c later w j (h .0))
+    (demoted-meets c (accepted c later w) cf j h (rw (demotion-returned c later w j (h .0)) at d))
+
+-- 3. a job that the replay under EDF says is met, the replay under EDF-CF says is met
+pub returned-edf-met-stays-met : (c : Case) (edf cf : List ℕ) → Returned (under 0 c) edf → Returned (under 1 c) cf → (j : ℕ) → Judged c j
+    → verdictIn edf j ≡ 1 → verdictIn cf j ≡ 1
+returned-edf-met-stays-met c edf cf v w j h e =
+    verdict-returned (under 1 c) cf w j (h .0) ∙ edf-met-stays-met (under 1 c) (accepted (under 1 c) cf w) j h (sym (verdict-returned (under 0 c) edf v j (h .0)) ∙ e)
