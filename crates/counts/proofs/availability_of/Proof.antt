@@ -1,3 +1,4 @@
+-- `counts::availability_of` meets its contract.
 use Rattle.counts.proofs.Sums.{avail-small}
 use native.Mathlib.Omega.{arith}
 use Prim.Native.Nat.{_-_}

@@ -1,3 +1,4 @@
+-- `counts::count_of` meets its contract.
 use lib.ListN.{length}
 use native.Mathlib.Numerals.{add-one}
 use native.Mathlib.Nat.{zero-add}

@@ -1,3 +1,4 @@
+-- `engine::take_releases` meets its contract.
 use Rattle.rules.specs.Words.{tab}
 use borrow.Author.Needs.{needs}
 use native.Mathlib.Omega.{arith}

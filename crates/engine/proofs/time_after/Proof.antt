@@ -1,3 +1,4 @@
+-- `engine::time_after` meets its contract.
 use native.Mathlib.Numerals.{add-one}
 use borrow.Author.Needs.{needs}
 use Rattle.engine.proofs.time_after.Statement.{statement}

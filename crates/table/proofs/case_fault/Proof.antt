@@ -1,3 +1,4 @@
+-- `table::case_fault` meets its contract.
 use Rattle.rules.specs.Refusals.{caseFault}
 use mathlib.Core.Path.{_∙_}
 use Rattle.table.proofs.Rows.{stop, skip}

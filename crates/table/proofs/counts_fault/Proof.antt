@@ -1,3 +1,4 @@
+-- `table::counts_fault` meets its contract.
 use Rattle.rules.specs.Refusals.{countsFault}
 use mathlib.Core.Path.{_∙_}
 use Rattle.table.proofs.Rows.{stop, skip, few-tasks}

@@ -1,3 +1,4 @@
+-- `table::end_fault` meets its contract.
 use borrow.Author.Tests.{le-leb, lt-leb}
 use Rattle.rules.specs.Refusals.{endFault}
 use borrow.Author.Needs.{needs}

@@ -1,3 +1,4 @@
+-- `table::in_order` meets its contract.
 use mathlib.Core.Path.{_∙_}
 use Rattle.table.proofs.Small.{order-first, order-next}
 use borrow.Author.Needs.{needs}

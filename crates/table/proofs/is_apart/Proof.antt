@@ -1,3 +1,4 @@
+-- `table::is_apart` meets its contract.
 use Rattle.table.proofs.Small.{apart-some}
 use borrow.Author.Needs.{needs}
 use Rattle.table.proofs.is_apart.Statement.{statement}

@@ -1,3 +1,4 @@
+-- `table::is_named` meets its contract.
 use borrow.Author.Tests.{le-leb, lt-leb}
 use Rattle.table.proofs.is_named.Statement.{statement}
 use Rattle.table.proofs.is_named.Tie as tie

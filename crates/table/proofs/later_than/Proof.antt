@@ -1,3 +1,4 @@
+-- `table::later_than` meets its contract.
 use borrow.Author.Tests.{eq-eqb, ne-eqb, lt-ltb, le-ltb}
 use Rattle.table.proofs.later_than.Statement.{statement}
 use Rattle.table.proofs.later_than.Tie as tie

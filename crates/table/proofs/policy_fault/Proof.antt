@@ -1,3 +1,4 @@
+-- `table::policy_fault` meets its contract.
 use borrow.Author.Tests.{le-leb, lt-leb}
 use Rattle.rules.specs.Refusals.{policyFault}
 use borrow.Author.Needs.{needs}

@@ -1,3 +1,4 @@
+-- `table::procs_fault` meets its contract.
 use borrow.Author.Tests.{le-leb, lt-leb}
 use Rattle.rules.specs.Refusals.{procsFault}
 use borrow.Author.Needs.{needs}

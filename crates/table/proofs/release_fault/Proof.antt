@@ -1,3 +1,4 @@
+-- `table::release_fault` meets its contract.
 use Rattle.rules.specs.Case.{nameOf, taskCount}
 use Prim.Native.Nat.{_-_}
 use native.Mathlib.Omega.{arith}

@@ -1,3 +1,4 @@
+-- `table::releases_fault` meets its contract.
 use Rattle.rules.specs.declared.Fault.{Fault}
 use borrow.Author.Needs.{needs}
 use native.Mathlib.Omega.{arith}

@@ -1,3 +1,4 @@
+-- `table::replay_fault` meets its contract.
 use Rattle.rules.specs.Refusals.{replayFault}
 use Rattle.table.proofs.Rows.{stop, skip}
 use mathlib.Core.Path.{_∙_}

@@ -1,3 +1,4 @@
+-- `table::room_fault` meets its contract.
 use borrow.Author.Tests.{le-leb, lt-leb}
 use Rattle.rules.specs.Refusals.{roomFault}
 use borrow.Author.Needs.{needs}

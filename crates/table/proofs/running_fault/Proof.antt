@@ -1,3 +1,4 @@
+-- `table::running_fault` meets its contract.
 use Rattle.rules.specs.Refusals.{runningFault}
 use mathlib.Core.Path.{_∙_}
 use Rattle.table.proofs.Rows.{stop, skip}

@@ -1,3 +1,4 @@
+-- `table::slot_fault` meets its contract.
 use borrow.Author.Tests.{lt-ltb, le-ltb}
 use Rattle.rules.specs.Refusals.{slotFault}
 use borrow.Author.Needs.{needs}

@@ -1,3 +1,4 @@
+-- `table::table_checks` meets its contract.
 use mathlib.Core.Path.{_∙_}
 use Rattle.table.proofs.Rows.{stop, skip, few-tasks, sound-table}
 use borrow.Author.Needs.{needs}

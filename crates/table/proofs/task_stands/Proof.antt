@@ -1,3 +1,4 @@
+-- `table::task_stands` meets its contract.
 use borrow.Author.Tests.{le-leb, lt-leb}
 use Rattle.table.proofs.task_stands.Statement.{statement}
 use Rattle.table.proofs.task_stands.Tie as tie

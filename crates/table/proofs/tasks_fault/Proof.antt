@@ -1,3 +1,4 @@
+-- `table::tasks_fault` meets its contract.
 use lib.ListN.{length}
 use native.Mathlib.Numerals.{add-one}
 use borrow.Author.Needs.{needs}

@@ -1,3 +1,4 @@
+-- `table::trace_checks` meets its contract.
 use mathlib.Core.Path.{_∙_}
 use Rattle.table.proofs.Rows.{stop, skip, short-end, few-releases}
 use borrow.Author.Needs.{needs}

@@ -1,3 +1,4 @@
+-- `table::trace_fault` meets its contract.
 use borrow.Author.Tests.{eq-eqb, ne-eqb, le-leb, lt-leb}
 use Rattle.rules.specs.Refusals.{traceFault}
 use borrow.Author.Needs.{needs}
