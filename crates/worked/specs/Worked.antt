@@ -2,7 +2,7 @@
 use mathlib.Core.Path.{_≡_, refl}
 use mathlib.Core.List.{List, [], _∷_, map}
 use Prim.Native.Nat.{ℕ}
-use Rattle.rules.specs.Case.{Case, caseOf}
+use Rattle.rules.specs.Case.{Case, caseOf, execution}
 use Rattle.rules.specs.Words.{sum, firstIn, tab, mapFrom}
 use Rattle.rules.specs.Counts.{availability, availabilities, count, freeCount, freeCounts}
 use Rattle.rules.specs.Slot.{present, judged, joined, demoted, jobsNow, contentionFree, lowered, opened, jobBefore, rank, chosen, worked, after, ran, finished, missed, demotedNow, setNumber}
@@ -59,9 +59,12 @@ byHand =
     entry (verdicts (setB 0 10)) (1 ∷ 1 ∷ 2 ∷ []) ∷
     entry (verdicts (setB 1 10)) (1 ∷ 1 ∷ 2 ∷ []) ∷
     entry (totals (setB 0 9)) (2 ∷ 0 ∷ 1 ∷ []) ∷
+    entry (totals (setB 1 9)) (2 ∷ 0 ∷ 1 ∷ []) ∷
+    entry (verdicts (setB 0 9)) (1 ∷ 1 ∷ 3 ∷ []) ∷
     entry (verdicts (setB 1 9)) (1 ∷ 1 ∷ 3 ∷ []) ∷
-    -- one task (5,1,5), m = 1: free count 3; it finishes at 1 and is never demoted
-    entry (freeCounts 1 (5 ∷ 1 ∷ 5 ∷ [])) (3 ∷ []) ∷
+    -- one task (5,1,5), m = 1: free count 3, execution 1; it finishes at 1 and is never demoted
+    entry (freeCounts 1 (one .table)) (3 ∷ []) ∷
+    entry (execution (one .table) 0 ∷ []) (1 ∷ []) ∷
     entry (numbers (records one)) (1 ∷ 1 ∷ 0 ∷ []) ∷
     -- two tasks (4,2,4), m = 1, end 4: finishes 2 and 4
     entry (numbers (records two)) (1 ∷ 2 ∷ 0 ∷ 1 ∷ 4 ∷ 0 ∷ []) ∷ []
