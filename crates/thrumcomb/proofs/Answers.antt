@@ -1,16 +1,16 @@
 -- What the calls on an accepted case answer: no refusal but that of a slot beyond its end, and the values of the rules.
 use mathlib.Core.Path.{_≡_, refl, sym, ap, _∙_}
 use mathlib.Core.Bool.{Bool, true, false, false≢true}
-use mathlib.Core.List.{List, [], _∷_, _++_}
+use mathlib.Core.List.{List, [], _∷_}
 use Prim.Native.Nat.{ℕ, _*_, _≤_}
 use native.Mathlib.Omega.{arith}
-use lib.Dec.{eqb, ltb, leb}
-use lib.ListN.{length, getD, drop}
+use lib.Dec.{eqb, ltb}
+use lib.ListN.{length, getD}
 use borrow.Author.Tests.{eqb-true, le-leb}
 use Rattle.rules.specs.Words.{pick}
 use Rattle.rules.specs.declared.Fault.{Fault}
 use Rattle.rules.specs.Case.{Case, taskCount, releaseCount}
-use Rattle.rules.specs.Refusals.{noFault, unless, orNext, procsFault, policyFault, tableFault, tasksFault, endFault, roomFault, slotFault, caseFault, countsFault, replayFault, runningFault, Accepted}
+use Rattle.rules.specs.Refusals.{noFault, unless, orNext, procsFault, policyFault, tableFault, tasksFault, roomFault, slotFault, caseFault, countsFault, replayFault, runningFault, Accepted}
 use Rattle.rules.specs.Answers.{Answer, refusal, result, settled, kept}
 use Rattle.rules.specs.Replay.{runningSet}
 use Rattle.rules.specs.Calls.{runningAnswer}

@@ -13,7 +13,6 @@ use Rattle.rules.specs.Text.{digitsOf}
 use Rattle.rules.specs.Writer.{joinedText}
 use Rattle.rules.specs.Report.{jobWord, verdictName, finishField, demotionField, jobLine}
 use Rattle.bridge.specs.Lists.{tab-snoc}
-use Rattle.puts.specs.Laid.{Laid}
 use Rattle.puts.specs.Fields.{fieldsText}
 use Rattle.puts.proofs.Digits.{at-most-ten}
 use Rattle.puts.proofs.Lines.{line-length}

@@ -11,10 +11,10 @@ use Rattle.rules.specs.Refusals.{replayFault, Accepted}
 use Rattle.rules.specs.Replay.{Record, recordOf, recordBy, records, numbers, metJobs, missedJobs, openJobs}
 use Rattle.rules.specs.Calls.{roomAfter, replayRoom}
 use Rattle.rules.specs.Writer.{joinedText}
-use Rattle.rules.specs.Report.{jobLine, runLine, totalLine, releaseLine, report}
+use Rattle.rules.specs.Report.{jobLine, totalLine, releaseLine, report}
 use Rattle.bridge.specs.Lists.{tab-long, tab-at, tab-cong}
 use Rattle.bridge.specs.Notes.{numbers-long}
-use Rattle.bridge.specs.Legal.{Legal, Good, legal}
+use Rattle.bridge.specs.Legal.{legal}
 use Rattle.puts.specs.Laid.{Laid}
 use Rattle.puts.proofs.Puts.{laid-then}
 use Rattle.report.specs.Lines.{runText, totalText}

@@ -8,7 +8,6 @@ use lib.Dec.{leb}
 use lib.ListN.{length, getD, take, drop, length-append}
 use lib.Seq.{sets, sets-eq}
 use borrow.Author.Tests.{leb-true}
-use Rattle.rules.specs.Words.{tab}
 use Rattle.rules.specs.declared.Counted.{Counted}
 use Rattle.rules.specs.declared.Counted.the-variants as Counted·
 use Rattle.rules.specs.declared.Replayed.{Replayed}

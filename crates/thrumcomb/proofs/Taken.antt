@@ -1,5 +1,5 @@
 -- What the reader's answer says of the text: a refusal is the text's, and the case read is the text's case and accepted.
-use mathlib.Core.Path.{_≡_, refl, sym, ap, ap₂, _∙_}
+use mathlib.Core.Path.{_≡_, sym, ap, _∙_}
 use mathlib.Core.Bool.{Bool, true, false, false≢true}
 use mathlib.Core.List.{List, [], _∷_, _++_}
 use Prim.Native.Nat.{ℕ, _*_, _≤_}
@@ -10,13 +10,13 @@ use lib.Seq.{take-append-seam}
 use borrow.Author.Tests.{le-leb}
 use Rattle.rules.specs.Words.{pick}
 use Rattle.rules.specs.declared.Fault.{Fault}
-use Rattle.rules.specs.Case.{Case, caseOf, taskCount, releaseCount}
+use Rattle.rules.specs.Case.{caseOf, taskCount, releaseCount}
 use Rattle.rules.specs.Refusals.{noFault, orNext, roomFault, Accepted}
 use Rattle.rules.specs.Answers.{refusal, result, settled}
 use Rattle.rules.specs.Reader.{caseIn, textFault, readFault, caseValues, readAnswer, readTasks, readReleases}
 use Rattle.rules.specs.Report.{refusedLine}
 use Rattle.bridge.specs.Legal.{legal, next-clear}
-use Rattle.roundtrip.specs.CaseLines.{Whole, accepted-whole}
+use Rattle.roundtrip.specs.CaseLines.{accepted-whole}
 use Rattle.roundtrip.specs.RoundTrip.{case-accepted}
 use Rattle.thrumcomb.specs.Prints.{caseSays, textSays}
 use Rattle.thrumcomb.specs.declared.Wish.{Wish}

@@ -1,5 +1,5 @@
 -- `thrumcomb::put_count_lines` meets its contract: the lines of the tasks passed are laid, each in the part from the present end on.
-use Prim.Native.Nat.{_+_, _-_, _*_, _≤_}
+use Prim.Native.Nat.{_+_, _-_, _≤_}
 use mathlib.Core.Path.{_≡_}
 use native.Mathlib.Omega.{arith}
 use borrow.Author.Needs.{needs}

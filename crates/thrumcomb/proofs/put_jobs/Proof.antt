@@ -1,5 +1,5 @@
 -- `thrumcomb::put_jobs` meets its contract: the lines of the releases passed are laid, each in the part from the present end on.
-use Prim.Native.Nat.{_+_, _-_, _*_, _/_, _≤_}
+use Prim.Native.Nat.{_+_, _-_, _/_, _≤_}
 use mathlib.Core.Path.{_≡_}
 use native.Mathlib.Omega.{arith}
 use lib.ListN.{length}
