@@ -4,6 +4,7 @@ ghost use Prim.Native.Nat.{ℕ, suc, _+_, _-_, _%_, _≤_};
 ghost use lib.Dec.{eqb};
 ghost use lib.ListN.{length};
 ghost use Rattle.rules.specs.Words.{pick};
+ghost use Rattle.rules.specs.Text.{digitsOf};
 ghost use Rattle.rules.specs.Replay.{recordOf};
 ghost use Rattle.rules.specs.Report.{verdictName, finishField, demotionField, jobLine, refusedLine};
 ghost use Rattle.puts.specs.Laid.{Laid};
@@ -104,13 +105,51 @@ pub fn put_total(out: &mut [u8], releases: u32, met: u32, missed: u32, still_ope
     put_line(out, SPACE, TOTAL, &numbers)
 }
 
-// Writes the line of a refusal.
+// Writes a space and a refusal's number, chosen by the number as every word is.
+fn put_refusal(out: &mut [u8], at: usize, number: u32) -> usize
+    requires { ⌜ at + 11 ≤ length (now out) ⌝ }
+    ensures { λ r. ⌜ Laid at (32 ∷ digitsOf number) (now (out .entry)) (now (out .exit)) r ⌝ }
+{
+    match number {
+        1 => put_bytes(out, at, b" 1"),
+        2 => put_bytes(out, at, b" 2"),
+        3 => put_bytes(out, at, b" 3"),
+        4 => put_bytes(out, at, b" 4"),
+        5 => put_bytes(out, at, b" 5"),
+        6 => put_bytes(out, at, b" 6"),
+        7 => put_bytes(out, at, b" 7"),
+        8 => put_bytes(out, at, b" 8"),
+        9 => put_bytes(out, at, b" 9"),
+        10 => put_bytes(out, at, b" 10"),
+        11 => put_bytes(out, at, b" 11"),
+        12 => put_bytes(out, at, b" 12"),
+        13 => put_bytes(out, at, b" 13"),
+        14 => put_bytes(out, at, b" 14"),
+        15 => put_bytes(out, at, b" 15"),
+        _ => put_other(out, at, number),
+    }
+}
+
+// Writes a space and a number that is none of document 01's refusals.
+fn put_other(out: &mut [u8], at: usize, number: u32) -> usize
+    requires { ⌜ at + 11 ≤ length (now out) ⌝ }
+    ensures { λ r. ⌜ Laid at (32 ∷ digitsOf number) (now (out .entry)) (now (out .exit)) r ⌝ }
+{
+    let numbers = [number];
+    put_numbers(out, at, SPACE, &numbers)
+}
+
+// Writes the line of a refusal: its number and its place.
 pub fn put_refused(out: &mut [u8], number: u32, place: u32) -> usize
     requires { ⌜ lineRoom ≤ length (now out) ⌝ }
     ensures { λ r. ⌜ Printed (refusedLine number place) (now (out .entry)) (now (out .exit)) r ⌝ }
 {
-    let numbers = [number, place];
-    put_line(out, SPACE, REFUSED, &numbers)
+    let at = put_word(out, REFUSED);
+    let place_at = put_refusal(out, at, number);
+    let places = [place];
+    let last = put_numbers(out, place_at, SPACE, &places);
+    out[last] = 10;
+    last + 1
 }
 
 // Writes the line of a task's free count.
