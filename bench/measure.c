@@ -74,9 +74,14 @@ __attribute__((noinline)) static size_t used(void)
     return PAINTED - i;
 }
 
-static void line(const char *what, long c, long t, int same)
+static const char *compared(int same)
 {
-    printf("%s: C %ld, Thrumcomb %ld, ratio %.2f, %s\n", what, c, t, (double)t / (double)(c > 0 ? c : 1), same ? "same answers" : "OTHER ANSWERS");
+    return same ? "same answers" : "OTHER ANSWERS";
+}
+
+static void line(const char *what, long c, long t, const char *answers)
+{
+    printf("%s: C %ld, Thrumcomb %ld, ratio %.2f, %s\n", what, c, t, (double)t / (double)(c > 0 ? c : 1), answers);
 }
 
 static void measure_replay(uint32_t repeat)
@@ -99,7 +104,7 @@ static void measure_replay(uint32_t repeat)
     same = results[0] == totals[0] && results[1] == totals[1] && results[2] == totals[2];
     for (i = 0; i < trace_len / 2 * 3; i++)
         same = same && room_c[i] == room_t[i];
-    line("replay", c, t, same);
+    line("replay", c, t, compared(same));
 }
 
 static void measure_text(uint32_t repeat)
@@ -127,13 +132,22 @@ static void measure_text(uint32_t repeat)
         thrumcomb_write(procs, policy, table, table_len, end, trace, trace_len, out_t, sizeof out_t, length, &place_t);
         wt += clock() - a;
     }
-    line("reader", rc, rt, number_t != 0 ? 1 : number_c == 0 && results[3] == read_c.tasks && results[4] == read_c.releases);
-    if (number_t != 0)
+    if (number_t != 0) {
+        /* The plain C makes no checks on numbers, so there is no refusal of its own to compare. */
+        line("reader", rc, rt, "refused, not compared");
         return;
+    }
+    same = number_c == 0 && results[0] == read_c.procs && results[1] == read_c.policy && results[2] == read_c.end
+        && results[3] == read_c.tasks && results[4] == read_c.releases;
+    for (i = 0; same && i < 3 * read_c.tasks; i++)
+        same = tasks[i] == read_c.table[i];
+    for (i = 0; same && i < 2 * read_c.releases; i++)
+        same = releases[i] == read_c.trace[i];
+    line("reader", rc, rt, compared(same));
     same = written == length[0];
     for (i = 0; i < written; i++)
         same = same && out_c[i] == out_t[i];
-    line("writer", wc, wt, same);
+    line("writer", wc, wt, compared(same));
 }
 
 static void measure_stack(void)

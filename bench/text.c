@@ -1,6 +1,6 @@
 /*
  * A plain reader and writer of the case text of document 01 in C, to measure Thrumcomb against: one pass over the text, the numbers
- * stored as they are read, then the checks of the replay.
+ * stored as they are read. It makes no checks on numbers (refusals 4 to 12), which Thrumcomb's reader does: it has less to do.
  */
 
 #include "text.h"
