@@ -11,9 +11,7 @@ use lib.ListN.{length, getD, set}
 use borrow.Author.Tests.{lt-ltb, le-ltb}
 use Rattle.rules.specs.Words.{pick, bit, sum, countIn, tab}
 use Rattle.rules.specs.Case.{Case, releaseCount, nameOf}
-use Rattle.rules.specs.Slot.{jobAt, isMissed, missed}
-use Rattle.rules.specs.Replay.{stateAt, finishedAt, missedAt, demotedAt, Record, recordOf, recordBy, numbers, marked}
-use Rattle.rules.specs.declared.Run.{Run}
+use Rattle.rules.specs.Replay.{finishedAt, missedAt, demotedAt, Record, recordOf, recordBy, numbers, marked}
 use Rattle.bridge.specs.Lists.{tab-long, tab-at, tab-cong, tab-set}
 use Rattle.bridge.specs.Sums.{sum-cong}
 use Rattle.bridge.specs.Legal.{Legal}
@@ -83,32 +81,38 @@ module _ (f : ℕ → Record) (n : ℕ) (rest : List ℕ) (j : ℕ) (h : j < n) 
   pub held-demotion : getD (numbers (tab f 0 n) ++ rest) (j * 3 + 2) 0 ≡ f j .demotion
   held-demotion = demotion-at (tab f 0 n) j rest long ∙ ap (λ (r : Record). r .demotion) held
 
--- ---- what one slot stores, task by task: the sets that finished and were demoted, and the run after the slot
-unfoldable pub noteOne : ℕ → List ℕ → Run → List Bool → List Bool → ℕ → List ℕ → List ℕ
-noteOne t place next fin dem i xs =
-    pick (event (getD fin i false) (getD dem i false) (isMissed (suc t) (jobAt next i)))
-    (put3 xs (getD place i 0)
-    (entry t (getD fin i false) (getD dem i false) (isMissed (suc t) (jobAt next i)) (getD xs (getD place i 0 * 3 + 2) 0))) xs
+-- ---- what one slot stores, task by task: the sets that finished, were demoted and are late
+abbrev pub eventAt : List Bool → List Bool → List Bool → ℕ → Bool
+eventAt fin dem late i = event (getD fin i false) (getD dem i false) (getD late i false)
 
-unfoldable pub noteTo : ℕ → List ℕ → Run → List Bool → List Bool → ℕ → List ℕ → List ℕ
-noteTo t place next fin dem zero xs = xs
-noteTo t place next fin dem (suc i) xs = noteOne t place next fin dem i (noteTo t place next fin dem i xs)
+unfoldable pub noteOne : ℕ → List ℕ → List Bool → List Bool → List Bool → ℕ → List ℕ → List ℕ
+noteOne t place fin dem late i xs =
+    pick (eventAt fin dem late i)
+    (put3 xs (getD place i 0)
+    (entry t (getD fin i false) (getD dem i false) (getD late i false) (getD xs (getD place i 0 * 3 + 2) 0))) xs
+
+unfoldable pub noteTo : ℕ → List ℕ → List Bool → List Bool → List Bool → ℕ → List ℕ → List ℕ
+noteTo t place fin dem late zero xs = xs
+noteTo t place fin dem late (suc i) xs = noteOne t place fin dem late i (noteTo t place fin dem late i xs)
+
+-- where nothing happens to any job nothing is stored
+pub noted-none : (t : ℕ) (place : List ℕ) (fin dem late : List Bool) (n : ℕ) (xs : List ℕ) → ((i : ℕ) → i < n → eventAt fin dem late i ≡ false)
+    → noteTo t place fin dem late n xs ≡ xs
+unfolding noteTo noteOne
+noted-none t place fin dem late zero xs h = refl
+noted-none t place fin dem late (suc n) xs h = rw (h n (omega arith)) (noted-none t place fin dem late n xs (λ i l. h i (omega arith)))
 
 -- what is handed to the stores is what the slot of the case has
-pub record Handed (c : Case) (t k : ℕ) (place : List ℕ) (next : Run) (fin dem : List Bool) : Type 0 where
+pub record Handed (c : Case) (t k : ℕ) (place : List ℕ) (fin dem late : List Bool) : Type 0 where
   pub at-place : (i : ℕ) → i < 32 → getD place i 0 ≡ lastPlace (c .trace) k (suc i)
-  pub at-next : next ≡ stateAt c (suc t)
   pub at-fin : (i : ℕ) → i < 32 → getD fin i false ≡ finishedAt c t i
   pub at-dem : (i : ℕ) → i < 32 → getD dem i false ≡ demotedAt c t i
+  pub at-late : (i : ℕ) → i < 32 → getD late i false ≡ missedAt c (suc t) i
 
-module _ (c : Case) (g : Legal c) (t k : ℕ) (w : Reached (c .trace) k (suc t)) (place : List ℕ) (next : Run) (fin dem : List Bool)
-    (o : Handed c t k place next fin dem) (rest : List ℕ) where
+module _ (c : Case) (g : Legal c) (t k : ℕ) (w : Reached (c .trace) k (suc t)) (place : List ℕ) (fin dem late : List Bool)
+    (o : Handed c t k place fin dem late) (rest : List ℕ) where
   abbrev n : ℕ
   n = releaseCount (c .trace)
-
-  late-at : (i : ℕ) → isMissed (suc t) (jobAt next i) ≡ missedAt c (suc t) i
-  unfolding missedAt missed
-  late-at i = ap (λ (r : Run). isMissed (suc t) (jobAt r i)) (o .at-next)
 
   -- the records when the tasks below i have been noted
   abbrev mixed : ℕ → ℕ → Record
@@ -129,10 +133,10 @@ module _ (c : Case) (g : Legal c) (t k : ℕ) (w : Reached (c .trace) k (suc t))
       go (no a) (yes b) = mixed-old i j (omega arith) ∙ sym (h (omega arith)) ∙ sym (mixed-new (suc i) j b)
       go (no a) (no b) = mixed-old i j (omega arith) ∙ sym (mixed-old (suc i) j (omega arith))
 
-  one : (i : ℕ) → i < 32 → noteOne t place next fin dem i (numbers (tab (mixed i) 0 n) ++ rest) ≡ numbers (tab (mixed (suc i)) 0 n) ++ rest
+  one : (i : ℕ) → i < 32 → noteOne t place fin dem late i (numbers (tab (mixed i) 0 n) ++ rest) ≡ numbers (tab (mixed (suc i)) 0 n) ++ rest
   unfolding noteOne
   one i h =
-      rw (o .at-place i h, o .at-fin i h, o .at-dem i h, late-at i)
+      rw (o .at-place i h, o .at-fin i h, o .at-dem i h, o .at-late i h)
       (go (event (finishedAt c t i) (demotedAt c t i) (missedAt c (suc t) i)) refl)
     where
       p : ℕ
@@ -161,15 +165,15 @@ module _ (c : Case) (g : Legal c) (t k : ℕ) (w : Reached (c .trace) k (suc t))
           ap (λ (l : List Record). numbers l ++ rest) (tab-set (mixed i) (mixed (suc i)) n p (v .within)
           (λ j x y. mixed-more i j (λ q. v .others j x q y)))
 
-  all-to : (i : ℕ) → i ≤ 32 → noteTo t place next fin dem i (numbers (tab (mixed 0) 0 n) ++ rest) ≡ numbers (tab (mixed i) 0 n) ++ rest
+  all-to : (i : ℕ) → i ≤ 32 → noteTo t place fin dem late i (numbers (tab (mixed 0) 0 n) ++ rest) ≡ numbers (tab (mixed i) 0 n) ++ rest
   unfolding noteTo
   all-to zero h = refl
-  all-to (suc i) h = ap (noteOne t place next fin dem i) (all-to i (omega arith)) ∙ one i (omega arith)
+  all-to (suc i) h = ap (noteOne t place fin dem late i) (all-to i (omega arith)) ∙ one i (omega arith)
 
   -- the stores of the slot at t bring the records as they stand at t to those as they stand at t + 1
-  pub noted-all : noteTo t place next fin dem 32 (numbers (tab (recordBy c t) 0 n) ++ rest) ≡ numbers (tab (recordBy c (suc t)) 0 n) ++ rest
+  pub noted-all : noteTo t place fin dem late 32 (numbers (tab (recordBy c t) 0 n) ++ rest) ≡ numbers (tab (recordBy c (suc t)) 0 n) ++ rest
   noted-all =
-      ap (λ (l : List Record). noteTo t place next fin dem 32 (numbers l ++ rest))
+      ap (λ (l : List Record). noteTo t place fin dem late 32 (numbers l ++ rest))
       (tab-cong (recordBy c t) (mixed 0) 0 n (λ j x y. sym (mixed-old 0 j (omega (arith, g .named j (omega arith)))))) ∙
       all-to 32 (omega arith) ∙
       ap (λ (l : List Record). numbers l ++ rest)

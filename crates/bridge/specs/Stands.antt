@@ -9,7 +9,7 @@ use lib.Dec.{eqb, leb}
 use borrow.Author.Tests.{ne-eqb}
 use Rattle.rules.specs.Words.{pick, firstIn}
 use Rattle.rules.specs.Case.{Case, deadline}
-use Rattle.rules.specs.Slot.{Setup, TaskSet, jobAt, isPresent, leftOf, dueOf, present, isCf, isDemotedNow, readied, opened, chosen, workedJob, after, ran, finished, demotedNow}
+use Rattle.rules.specs.Slot.{Setup, TaskSet, jobAt, isPresent, leftOf, dueOf, present, isCf, isDemotedNow, opened, chosen, workedJob, after, ran, finished, demotedNow}
 use Rattle.rules.specs.Replay.{setupIn, releasedAt, stateFrom, stateAt, finishedAt, demotedAt, ranAt}
 use Rattle.rules.specs.declared.Job.{Job}
 use Rattle.rules.specs.declared.Run.{Run}

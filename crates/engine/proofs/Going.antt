@@ -1,4 +1,4 @@
--- The replay's loop, apart from the code: what one turn gives, and how the records go on with it.
+-- The loop over the slots, apart from the code: what one slot more gives, and how the records go on with it.
 use mathlib.Core.Path.{_≡_, refl, ap, sym, _∙_}
 use mathlib.Core.Bool.{Bool, true, false, _&&_, false≢true}
 use mathlib.Core.List.{List, [], _∷_, _++_}
@@ -15,7 +15,6 @@ use Rattle.rules.specs.Words.{tab, firstIn}
 use Rattle.rules.specs.Case.{Case, taskCount, deadline, releaseCount, timeOf, nameOf}
 use Rattle.rules.specs.Slot.{TaskSet, Setup, jobAt, isMissed, isCf, isDemotedNow, judged, joinedTask, joined, readied, demoted, lowered, opened, after, ran, finished, missed, demotedNow, jobsNow}
 use Rattle.rules.specs.Replay.{setupIn, releasedIn, releasedAt, fresh, stateFrom, stateAt, ranAt, finishedAt, missedAt, demotedAt, slotsBy, finishBy, demotionBy, verdictBy, recordBy, numbers}
-use Rattle.rules.specs.Calls.{roomAfter}
 use Rattle.bridge.specs.Lists.{mapFrom-cong, tab-long, tab-at, tab-cong}
 use Rattle.bridge.specs.Steps.{Full, judged-full}
 use Rattle.bridge.specs.Stands.{state-full, state-next}
@@ -23,28 +22,33 @@ use Rattle.bridge.specs.Legal.{Legal}
 use Rattle.bridge.specs.Records.{taskAt, good-at, at-first}
 use Rattle.bridge.specs.Turn.{lastPlace, Reached}
 use Rattle.bridge.specs.Events.{turn-event}
-use Rattle.bridge.specs.Notes.{numbers-long, noteTo, noted-all}
+use Rattle.bridge.specs.Notes.{numbers-long, noteTo, Handed, noted-all}
 use Rattle.counts.specs.Needs.{Counts}
 use Rattle.slot.specs.Needed.{Needed}
 use Rattle.slot.specs.Stepped.{Stepped}
-use Rattle.slot.specs.declared.Slotted.{Slotted}
-use Rattle.engine.specs.declared.Walk.{Walk}
-use Rattle.engine.specs.declared.Turn.{Turn}
-use Rattle.engine.specs.Walks.{Orderly, places, releases, Walking, Rests, Turns, Roomy, openRecord}
-use Rattle.engine.proofs.Quiet.{none-left, still-walking, still-records}
+use Rattle.engine.specs.Walks.{Orderly, places, releases, Walking, Rests, Turned, LastRan, roomAt, Roomy, openRecord}
+use Rattle.engine.proofs.Quiet.{none-left, still-walking, still-ran, still-records}
 
 pub orderly : (c : Case) → Legal c → Orderly (c .trace)
 orderly c g = record { named = λ j h. (g .named j h .0, omega (arith, g .named j h .1, g .tasks-few)); sorted = g .in-order }
 
 -- ---- before the first slot
-pub walking-none : (c : Case) (w : Walk) → w .run ≡ fresh → w .place ≡ tab (λ i. 0) 0 32 → w .next ≡ 0 → Walking c 0 w
+pub walking-none : (c : Case) (run : Run) → run ≡ fresh → Walking c 0 run (tab (λ i. 0) 0 32) 0 0
 unfolding stateAt stateFrom lastPlace
-walking-none c w r p k = record {
-  run = r;
-  reached = rw k (record { within = omega arith; before = λ j h. absurd (omega arith); behind = λ j x y. omega arith });
-  place = rw k p;
+walking-none c run e = record {
+  at-run = e;
+  reached = record { within = omega arith; before = λ j h. absurd (omega arith); behind = λ j x y. omega arith };
+  at-place = refl;
   idle = λ e i l. at-first c i l;
 }
+
+-- no slot is the last one before time 0
+pub last-none : (c : Case) (rs : List Bool) → LastRan c 0 rs
+last-none c rs t e = absurd (omega (arith, e))
+
+-- the set of the slot at t is the set of the last slot before t + 1
+pub last-ran : (c : Case) (t : ℕ) (rs : List Bool) → rs ≡ tab (ranAt c t) 0 32 → LastRan c (suc t) rs
+last-ran c t rs h k e = let z : t ≡ k = omega (arith, e) in rw (← z) h
 
 -- ---- one slot
 -- a slot goes by its set's members below 32 only
@@ -75,7 +79,7 @@ module _ (g : Setup) (now : ℕ) (s u : TaskSet) (r : Run) (f : Full r) (h : (i 
   unfolding demotedNow
   demoted-same i = ap (λ (x : Run). isCf g && isDemotedNow (jobAt x i)) readied-same
 
-module _ (c : Case) (g : Legal c) (clock : ℕ) (w : Walk) (v : Walking c clock w) (more : clock < c .end) (rel : List Bool)
+module _ (c : Case) (g : Legal c) (clock : ℕ) (more : clock < c .end) (rel : List Bool)
     (re : rel ≡ releases (c .trace) (releaseCount (c .trace)) clock) where
   rel-at : (i : ℕ) → i < 32 → getD rel i false ≡ releasedAt c clock i
   rel-at i h = rw re (tab-at (releasedIn (c .trace) (releaseCount (c .trace)) clock) 32 i false h)
@@ -114,36 +118,41 @@ module _ (c : Case) (g : Legal c) (clock : ℕ) (w : Walk) (v : Walking c clock 
     counted = λ i e. q i (in-table i e);
   }
 
-  -- the walk after the slot, and the slot's sets
-  pub turned : (u : Turn) (s : Slotted) → Stepped (setupIn c) clock (λ i. getD rel i false) (w .run) s → u .walk .run ≡ s .run
-      → u .walk .idle ≡ eqb (s .jobs) 0 → u .ran ≡ s .ran → u .finished ≡ s .finished → u .demoted ≡ s .demoted
-      → Reached (c .trace) (u .walk .next) (suc clock) → u .walk .place ≡ places (c .trace) (u .walk .next) → Turns c clock u
-  unfolding ranAt finishedAt demotedAt
-  turned u s q a x b d f k p =
-      let S = stateAt c clock in
-      let full = state-full c clock in
-      let G = setupIn c in
-      let R = releasedAt c clock in
-      let z = rw (v .run) at q in
-      record {
-        walk = record {
-          run = a ∙ z .run ∙ after-same G clock (λ i. getD rel i false) R S full rel-at ∙ sym (state-next c clock);
-          reached = k;
-          place = p;
-          idle = λ e. none-left c clock
-              (ap (λ (y : Run). jobsNow (demoted G y)) (sym (readied-same G clock (λ i. getD rel i false) R S full rel-at)) ∙ sym (z .jobs) ∙ eqb-true (s .jobs) 0 (sym x ∙ e));
-        };
-        ran = b ∙ z .ran ∙ tab-cong _ _ 0 32 (λ i x y. ran-same G clock (λ i. getD rel i false) R S full rel-at i);
-        finished = d ∙ z .finished ∙ tab-cong _ _ 0 32 (λ i x y. finished-same G clock (λ i. getD rel i false) R S full rel-at i);
-        demoted = f ∙ z .demoted ∙ tab-cong _ _ 0 32 (λ i x y. demoted-same G clock (λ i. getD rel i false) R S full rel-at i);
-      }
+  module _ (run : Run) (e : run ≡ stateAt c clock) (run′ : Run) (jobs : ℕ) (ds rs fs ls : List Bool)
+      (q : Stepped (setupIn c) clock (λ i. getD rel i false) run run′ jobs ds rs fs ls) where
+    same-step : Stepped (setupIn c) clock (λ i. getD rel i false) (stateAt c clock) run′ jobs ds rs fs ls
+    same-step = rw e at q
+
+    next-run : run′ ≡ stateAt c (suc clock)
+    next-run = same-step .run ∙ after-same (setupIn c) clock (λ i. getD rel i false) (releasedAt c clock) (stateAt c clock) (state-full c clock) rel-at ∙ sym (state-next c clock)
+
+    -- the walk after the slot, and the set that ran
+    pub turned : (place : List ℕ) (next : ℕ) → Reached (c .trace) next (suc clock) → place ≡ places (c .trace) next → Turned c clock run′ place next jobs rs
+    unfolding ranAt
+    turned place next k p = record {
+      walks = record {
+        at-run = next-run;
+        reached = k;
+        at-place = p;
+        idle = λ z. none-left c clock
+            (ap (λ (y : Run). jobsNow (demoted (setupIn c) y))
+            (sym (readied-same (setupIn c) clock (λ i. getD rel i false) (releasedAt c clock) (stateAt c clock) (state-full c clock) rel-at)) ∙
+            sym (same-step .jobs) ∙ z);
+      };
+      ran = same-step .ran ∙ tab-cong _ _ 0 32 (λ i x y. ran-same (setupIn c) clock (λ i. getD rel i false) (releasedAt c clock) (stateAt c clock) (state-full c clock) rel-at i);
+    }
+
+    -- what is noted of the slot is what the case has
+    pub handed : (place : List ℕ) (next : ℕ) → place ≡ places (c .trace) next → Handed c clock next place fs ds ls
+    unfolding finishedAt demotedAt missedAt missed
+    handed place next p = record {
+      at-place = λ i h. rw p (tab-at (λ i. lastPlace (c .trace) next (suc i)) 32 i 0 h);
+      at-fin = λ i h. rw (same-step .finished) (tab-at _ 32 i false h) ∙ finished-same (setupIn c) clock (λ i. getD rel i false) (releasedAt c clock) (stateAt c clock) (state-full c clock) rel-at i;
+      at-dem = λ i h. rw (same-step .demoted) (tab-at _ 32 i false h) ∙ demoted-same (setupIn c) clock (λ i. getD rel i false) (releasedAt c clock) (stateAt c clock) (state-full c clock) rel-at i;
+      at-late = λ i h. rw (same-step .late) (tab-at _ 32 i false h) ∙ ap (λ (r : Run). isMissed (suc clock) (jobAt r i)) next-run;
+    }
 
 -- ---- the records
-pub record Going (c : Case) (rest : List ℕ) (clock : ℕ) (walk : Walk) (out : List ℕ) : Type 0 where
-  pub within : clock ≤ c .end
-  pub walks : Walking c clock walk
-  pub at-out : out ≡ numbers (tab (recordBy c clock) 0 (releaseCount (c .trace))) ++ rest
-
 -- at time 0 every record is open
 open-at-0 : (c : Case) → Legal c → (j : ℕ) → j < releaseCount (c .trace) → recordBy c 0 j ≡ openRecord
 unfolding recordBy verdictBy finishBy demotionBy slotsBy firstIn
@@ -153,78 +162,79 @@ open-at-0 c g j h =
     let l : leb (timeOf (c .trace) j + deadline (c .table) (taskAt c j)) 0 ≡ false = lt-leb (timeOf (c .trace) j + deadline (c .table) (taskAt c j)) 0 (omega (arith, m .some, m .fits)) in
     rw (z, l)
 
-module _ (c : Case) (g : Legal c) (rest : List ℕ) (clock : ℕ) (walk : Walk) (out : List ℕ) (v : Going c rest clock walk out) (more : clock < c .end)
-    (u : Turn) (t : Turns c clock u) where
-  place-at : (i : ℕ) → i < 32 → getD (u .walk .place) i 0 ≡ lastPlace (c .trace) (u .walk .next) (suc i)
-  place-at i h = rw (t .walk .place) (tab-at (λ i. lastPlace (c .trace) (u .walk .next) (suc i)) 32 i 0 h)
+records-long : (c : Case) (t : ℕ) → length (numbers (tab (recordBy c t) 0 (releaseCount (c .trace)))) ≡ releaseCount (c .trace) * 3
+records-long c t =
+    numbers-long (tab (recordBy c t) 0 (releaseCount (c .trace))) ∙ ap (λ (k : ℕ). k * 3) (tab-long (recordBy c t) 0 (releaseCount (c .trace)))
 
-  fin-at : (i : ℕ) → i < 32 → getD (u .finished) i false ≡ finishedAt c clock i
-  fin-at i h = rw (t .finished) (tab-at (finishedAt c clock) 32 i false h)
+-- what is past the records stays, so that the records of any time go into the same room
+pub same-room : (c : Case) (t u : ℕ) (xs out : List ℕ) → out ≡ roomAt c t xs → roomAt c u out ≡ roomAt c u xs
+same-room c t u xs out e =
+    ap (λ l. numbers (tab (recordBy c u) 0 (releaseCount (c .trace))) ++ l)
+    (rw e (drop-at (numbers (tab (recordBy c t) 0 (releaseCount (c .trace)))) (drop (releaseCount (c .trace) * 3) xs) (releaseCount (c .trace) * 3) (records-long c t)))
 
-  dem-at : (i : ℕ) → i < 32 → getD (u .demoted) i false ≡ demotedAt c clock i
-  dem-at i h = rw (t .demoted) (tab-at (demotedAt c clock) 32 i false h)
+pub room-long : (c : Case) (t : ℕ) (xs : List ℕ) → releaseCount (c .trace) * 3 ≤ length xs → length (roomAt c t xs) ≡ length xs
+room-long c t xs h =
+    length-append (numbers (tab (recordBy c t) 0 (releaseCount (c .trace)))) (drop (releaseCount (c .trace) * 3) xs) ∙
+    rw (records-long c t, length-drop (releaseCount (c .trace) * 3) xs) (omega arith)
 
-  late-at : (i : ℕ) → isMissed (suc clock) (jobAt (u .walk .run) i) ≡ missedAt c (suc clock) i
-  unfolding missedAt missed
-  late-at i = rw (t .walk .run)
+-- the room that holds the open records holds those of time 0
+pub room-open : (c : Case) → Legal c → (xs out : List ℕ) → out ≡ numbers (tab (λ j. openRecord) 0 (releaseCount (c .trace))) ++ drop (releaseCount (c .trace) * 3) xs
+    → out ≡ roomAt c 0 xs
+room-open c g xs out e =
+    e ∙ ap (λ l. numbers l ++ drop (releaseCount (c .trace) * 3) xs) (tab-cong (λ j. openRecord) (recordBy c 0) 0 _ (λ j p q. sym (open-at-0 c g j (omega arith))))
 
-  pub roomy : Roomy clock (u .walk .place) (u .walk .run) (u .finished) (u .demoted) (length out)
-  roomy i h e =
-      let l = turn-event c clock i h g (u .walk .next) (t .walk .reached) (rw (fin-at i h, dem-at i h, late-at i) at e) in
-      let a = ap length (v .at-out) ∙ length-append (numbers (tab (recordBy c clock) 0 (releaseCount (c .trace)))) rest in
-      let b = numbers-long (tab (recordBy c clock) 0 (releaseCount (c .trace))) in
-      rw (place-at i h) (omega (arith, l .within, a, b, tab-long (recordBy c clock) 0 (releaseCount (c .trace))))
+module _ (c : Case) (g : Legal c) (clock : ℕ) (out : List ℕ) (e : out ≡ roomAt c clock out) (next : ℕ) (w : Reached (c .trace) next (suc clock))
+    (place : List ℕ) (fs ds ls : List Bool) (o : Handed c clock next place fs ds ls) where
+  pub roomy : Roomy place fs ds ls (length out)
+  roomy i h x =
+      let l = turn-event c clock i h g next w (rw (o .at-fin i h, o .at-dem i h, o .at-late i h) at x) in
+      let a = ap length e ∙ length-append (numbers (tab (recordBy c clock) 0 (releaseCount (c .trace)))) (drop (releaseCount (c .trace) * 3) out) in
+      rw (o .at-place i h) (omega (arith, l .within, a, records-long c clock))
 
-  pub going-more : (out′ : List ℕ) → out′ ≡ noteTo clock (u .walk .place) (u .walk .run) (u .finished) (u .demoted) 32 out
-      → Going c rest (clock + 1) (u .walk) out′
-  going-more out′ e = rw (add-one clock) (record {
-    within = omega arith;
-    walks = t .walk;
-    at-out =
-        e ∙ ap (noteTo clock (u .walk .place) (u .walk .run) (u .finished) (u .demoted) 32) (v .at-out) ∙
-        noted-all c g clock (u .walk .next) (t .walk .reached) (u .walk .place) (u .walk .run) (u .finished) (u .demoted)
-        (record { at-place = place-at; at-next = t .walk .run; at-fin = fin-at; at-dem = dem-at }) rest;
-  })
+  -- what is noted of the slot brings the records to the next time
+  pub room-next : (out′ : List ℕ) → out′ ≡ noteTo clock place fs ds ls 32 out → out′ ≡ roomAt c (suc clock) out
+  room-next out′ n = n ∙ ap (noteTo clock place fs ds ls 32) e ∙ noted-all c g clock next w place fs ds ls o (drop (releaseCount (c .trace) * 3) out)
 
--- a slot that rests is passed over
-pub going-on : (c : Case) (g : Legal c) (rest : List ℕ) (clock : ℕ) (walk : Walk) (out : List ℕ) → Going c rest clock walk out → clock < c .end
-    → Rests (c .trace) (walk .next) (walk .idle) clock → Going c rest (clock + 1) walk out
-going-on c g rest clock walk out v more r = rw (add-one clock) (record {
-  within = omega arith;
-  walks = still-walking c g clock walk (v .walks) (r .idle) (r .later);
-  at-out =
-      v .at-out ∙
-      ap (λ l. numbers l ++ rest) (tab-cong (recordBy c clock) (recordBy c (suc clock)) 0 _
-      (λ j p q. sym (still-records c g clock walk (v .walks) (r .idle) (r .later) j (omega arith))));
-})
+-- a slot that rests changes no record
+pub room-still : (c : Case) (g : Legal c) (clock : ℕ) (run : Run) (place : List ℕ) (next jobs : ℕ) → Walking c clock run place next jobs
+    → Rests (c .trace) next jobs clock → (xs : List ℕ) → roomAt c clock xs ≡ roomAt c (suc clock) xs
+room-still c g clock run place next jobs v r xs =
+    ap (λ l. numbers l ++ drop (releaseCount (c .trace) * 3) xs)
+    (tab-cong (recordBy c clock) (recordBy c (suc clock)) 0 _ (λ j p q. sym (still-records c g clock run place next jobs v r j (omega arith))))
 
--- ---- before the loop and after it: the room past the records is what it was
-opened-long : (n : ℕ) → length (numbers (tab (λ j. openRecord) 0 n)) ≡ n * 3
-opened-long n = numbers-long (tab (λ j. openRecord) 0 n) ∙ ap (λ (k : ℕ). k * 3) (tab-long (λ j. openRecord) 0 n)
+-- ---- the loop
+-- before the slot at `clock`: how the walk stands, the set that ran last, and the records where they are noted
+pub record Going (c : Case) (until : ℕ) (noting : Bool) (xs : List ℕ) (clock : ℕ) (run : Run) (place : List ℕ) (next jobs : ℕ) (rs : List Bool) (out : List ℕ) : Type 0 where
+  pub within : clock ≤ until
+  pub walks : Walking c clock run place next jobs
+  pub ran : LastRan c clock rs
+  pub long : length out ≡ length xs
+  pub noted : noting ≡ true → out ≡ roomAt c clock xs
 
-module _ (c : Case) (g : Legal c) (xs first : List ℕ)
-    (e : first ≡ numbers (tab (λ j. openRecord) 0 (releaseCount (c .trace))) ++ drop (releaseCount (c .trace) * 3) xs) where
-  rest-same : drop (releaseCount (c .trace) * 3) first ≡ drop (releaseCount (c .trace) * 3) xs
-  rest-same = rw e (drop-at (numbers (tab (λ j. openRecord) 0 (releaseCount (c .trace)))) (drop (releaseCount (c .trace) * 3) xs)
-      (releaseCount (c .trace) * 3) (opened-long (releaseCount (c .trace))))
+module _ (c : Case) (until : ℕ) (noting : Bool) (xs : List ℕ) (clock : ℕ) (run : Run) (place : List ℕ) (next jobs : ℕ) (rs : List Bool) (out : List ℕ)
+    (v : Going c until noting xs clock run place next jobs rs out) where
+  -- the room as it is holds the records
+  pub noted-here : noting ≡ true → out ≡ roomAt c clock out
+  noted-here z = v .noted z ∙ sym (same-room c clock clock xs out (v .noted z))
 
-  pub going-start : (w : Walk) → Walking c 0 w → Going c (drop (releaseCount (c .trace) * 3) first) 0 w first
-  going-start w h = rw rest-same (record {
-    within = omega arith;
-    walks = h;
-    at-out = e ∙ ap (λ l. numbers l ++ drop (releaseCount (c .trace) * 3) xs) (tab-cong (λ j. openRecord) (recordBy c 0) 0 _ (λ j p q. sym (open-at-0 c g j (omega arith))));
-  })
+  module _ (more : clock < until) where
+    -- after a slot
+    pub going-more : (run′ : Run) (place′ : List ℕ) (next′ jobs′ : ℕ) (rs′ : List Bool) (out′ : List ℕ) → Turned c clock run′ place′ next′ jobs′ rs′
+        → length out′ ≡ length out → (noting ≡ true → out′ ≡ roomAt c (suc clock) out) → Going c until noting xs (clock + 1) run′ place′ next′ jobs′ rs′ out′
+    going-more run′ place′ next′ jobs′ rs′ out′ t l n = rw (add-one clock) (record {
+      within = omega arith;
+      walks = t .walks;
+      ran = last-ran c clock rs′ (t .ran);
+      long = l ∙ v .long;
+      noted = λ z. n z ∙ same-room c clock (suc clock) xs out (v .noted z);
+    })
 
-  module _ (clock : ℕ) (w : Walk) (out : List ℕ) (v : Going c (drop (releaseCount (c .trace) * 3) first) clock w out) (h : c .end ≤ clock) where
-    pub going-end : out ≡ roomAfter c xs
-    unfolding roomAfter
-    going-end =
-        let z : clock ≡ c .end = omega (arith, v .within) in
-        v .at-out ∙ rw (z, rest-same)
-
-    pub going-long : releaseCount (c .trace) * 3 ≤ length xs → length out ≡ length xs
-    unfolding roomAfter
-    going-long l =
-        let n = releaseCount (c .trace) in
-        ap length going-end ∙ length-append (numbers (tab (recordBy c (c .end)) 0 n)) (drop (n * 3) xs) ∙
-        rw (numbers-long (tab (recordBy c (c .end)) 0 n), tab-long (recordBy c (c .end)) 0 n, length-drop (n * 3) xs) (omega arith)
+    -- a slot that rests is passed over, and none runs in it
+    pub going-on : Legal c → Rests (c .trace) next jobs clock → Going c until noting xs (clock + 1) run place next jobs (tab (λ i. false) 0 32) out
+    going-on g r = rw (add-one clock) (record {
+      within = omega arith;
+      walks = still-walking c g clock run place next jobs (v .walks) r;
+      ran = last-ran c clock (tab (λ i. false) 0 32) (still-ran c g clock run place next jobs (v .walks) r);
+      long = v .long;
+      noted = λ z. v .noted z ∙ room-still c g clock run place next jobs (v .walks) r xs;
+    })

@@ -1,7 +1,8 @@
 -- A slot with nothing present and nothing released leaves everything as it is.
 use mathlib.Core.Path.{_≡_, refl, ap, sym, _∙_}
-use mathlib.Core.Bool.{Bool, true, false, _&&_, not, true≢false}
+use mathlib.Core.Bool.{Bool, true, false, _&&_, true≢false}
 use mathlib.Core.Logic.{_⊎_, inl, inr}
+use mathlib.Core.List.{List}
 use Prim.Native.Nat.{ℕ, zero, suc, _+_, _-_, _≤_, _<_}
 use native.Mathlib.Nat.{eq-or-lt-of-le, zero-add}
 use native.Mathlib.Decide.{decLe}
@@ -11,10 +12,11 @@ use Rattle.rules.specs.declared.Job.{Job}
 use Rattle.rules.specs.declared.Job.the-variants.{Idle, Normal, Demoted}
 use Rattle.rules.specs.declared.Task.{Task}
 use Rattle.rules.specs.declared.Run.{Run}
-use Rattle.rules.specs.Words.{pick, bit, sum, countIn}
+use Rattle.rules.specs.Words.{pick, bit, sum, countIn, tab}
 use Rattle.rules.specs.Case.{Case, releaseCount, timeOf}
 use Rattle.rules.specs.Slot.{Setup, TaskSet, noTask, runOf, withJob, jobAt, isPresent, present, eachTask, isCf, judged, joined, demotedTask, demoted, readied, jobsNow, contentionFree, loweredTask, lowered, opened, chosen, workedTask, worked, after}
-use Rattle.rules.specs.Replay.{setupIn, releasedAt, stateAt, recordBy}
+use Rattle.rules.specs.Replay.{setupIn, releasedAt, stateAt, ranAt, recordBy}
+use Rattle.bridge.specs.Lists.{tab-cong}
 use Rattle.bridge.specs.Steps.{Full, demotedJob, readied-at, demoted-at, readied-full, lowers}
 use Rattle.bridge.specs.Jobs.{kept-demoted, kept-opened}
 use Rattle.bridge.specs.Stands.{state-full, state-next, readyAt, openAt, ran-present, next-at}
@@ -22,8 +24,7 @@ use Rattle.bridge.specs.Legal.{Legal}
 use Rattle.bridge.specs.Records.{taskAt, released-no}
 use Rattle.bridge.specs.Turn.{Reached, turn-idle}
 use Rattle.bridge.specs.Fuse.{keep-all, same-each}
-use Rattle.engine.specs.declared.Walk.{Walk}
-use Rattle.engine.specs.Walks.{Walking}
+use Rattle.engine.specs.Walks.{Walking, Rests}
 
 absent-idle : (j : Job) → isPresent j ≡ false → j ≡ Idle
 absent-idle Idle e = refl
@@ -40,11 +41,6 @@ none-counted p (suc n) i e h = go (λ l. none-counted p n i (omega arith) l) (eq
     go ih (inr l) b q = ih l
     go ih (inl z) false q = rw z q
     go ih (inl z) true q = absurd (let x : bit (p (0 + n)) ≡ 1 = rw (zero-add n, q) in omega arith)
-
--- a test that does not fail holds
-pub not-false : (b : Bool) → not b ≡ false → b ≡ true
-not-false true e = refl
-not-false false e = absurd (true≢false e)
 
 -- ---- a run of idle tasks
 -- a change that leaves each task as it is leaves the run
@@ -111,20 +107,19 @@ module _ (c : Case) (t : ℕ) (n : jobsNow (demoted (setupIn c) (readied (setupI
       let o : isPresent (openAt c t i) ≡ false = kept-opened (isCf (setupIn c)) (lowers (setupIn c) t (releasedAt c t) (stateAt c t)) (readyAt c t i) .there ∙ x in
       next-at c i l t ∙ rw (ran-present c i l t o) (absent-idle (openAt c t i) o)
 
-module _ (c : Case) (g : Legal c) (t : ℕ) (w : Walk) (v : Walking c t w) (idle : w .idle ≡ true)
-    (later : w .next < releaseCount (c .trace) → timeOf (c .trace) (w .next) ≡ t → ⊥) where
-  after-now : (j : ℕ) → w .next ≤ j → j < releaseCount (c .trace) → suc t ≤ timeOf (c .trace) j
+module _ (c : Case) (g : Legal c) (t : ℕ) (run : Run) (place : List ℕ) (next jobs : ℕ) (v : Walking c t run place next jobs) (r : Rests (c .trace) next jobs t) where
+  after-now : (j : ℕ) → next ≤ j → j < releaseCount (c .trace) → suc t ≤ timeOf (c .trace) j
   after-now j h l =
-      let first : w .next < releaseCount (c .trace) = omega arith in
-      let x = v .reached .behind (w .next) (omega arith) first in
-      let y : suc t ≤ timeOf (c .trace) (w .next) = go (eq-or-lt-of-le {n = t} {m = timeOf (c .trace) (w .next)} x) first in
-      omega (arith, g .in-order (w .next) j h l)
+      let first : next < releaseCount (c .trace) = omega arith in
+      let x = v .reached .behind next (omega arith) first in
+      let y : suc t ≤ timeOf (c .trace) next = go (eq-or-lt-of-le {n = t} {m = timeOf (c .trace) next} x) first in
+      omega (arith, g .in-order next j h l)
     where
-      go : (t ≡ timeOf (c .trace) (w .next)) ⊎ (t < timeOf (c .trace) (w .next)) → w .next < releaseCount (c .trace) → suc t ≤ timeOf (c .trace) (w .next)
-      go (inl e) f = absurd (later f (sym e))
+      go : (t ≡ timeOf (c .trace) next) ⊎ (t < timeOf (c .trace) next) → next < releaseCount (c .trace) → suc t ≤ timeOf (c .trace) next
+      go (inl e) f = absurd (r .later f (sym e))
       go (inr h) f = h
 
-  pub reached-next : Reached (c .trace) (w .next) (suc t)
+  pub reached-next : Reached (c .trace) next (suc t)
   reached-next = record {
     within = v .reached .within;
     before = λ j h. omega (arith, v .reached .before j h);
@@ -132,29 +127,38 @@ module _ (c : Case) (g : Legal c) (t : ℕ) (w : Walk) (v : Walking c t w) (idle
   }
 
   none-now : (i : ℕ) → i < 32 → releasedAt c t i ≡ false
-  none-now i l = released-no (c .trace) (releaseCount (c .trace)) t i (λ j h e f. not-now j h e (decLe (w .next) j))
+  none-now i l = released-no (c .trace) (releaseCount (c .trace)) t i (λ j h e f. not-now j h e (decLe next j))
     where
-      not-now : (j : ℕ) → j < releaseCount (c .trace) → timeOf (c .trace) j ≡ t → Dec (w .next ≤ j) → ⊥
+      not-now : (j : ℕ) → j < releaseCount (c .trace) → timeOf (c .trace) j ≡ t → Dec (next ≤ j) → ⊥
       not-now j h e (yes p) = omega (arith, after-now j p h)
       not-now j h e (no p) = omega (arith, v .reached .before j (omega arith))
 
   still-state : stateAt c (suc t) ≡ stateAt c t
-  still-state = state-next c t ∙ still-after (setupIn c) t (releasedAt c t) (stateAt c t) (state-full c t) none-now (v .idle idle)
+  still-state = state-next c t ∙ still-after (setupIn c) t (releasedAt c t) (stateAt c t) (state-full c t) none-now (v .idle (r .idle))
 
   -- the walk stands as it stood
-  pub still-walking : Walking c (suc t) w
+  pub still-walking : Walking c (suc t) run place next jobs
   still-walking = record {
-    run = v .run ∙ sym still-state;
+    at-run = v .at-run ∙ sym still-state;
     reached = reached-next;
-    place = v .place;
-    idle = λ e i l. ap (λ (r : Run). jobAt r i) still-state ∙ v .idle e i l;
+    at-place = v .at-place;
+    idle = λ e i l. ap (λ (x : Run). jobAt x i) still-state ∙ v .idle e i l;
   }
 
-  -- and so do the records
+  -- no job is there in the slot
+  absent : (i : ℕ) → i < 32 → isPresent (openAt c t i) ≡ false
+  absent i l =
+      let k = kept-opened (isCf (setupIn c)) (lowers (setupIn c) t (releasedAt c t) (stateAt c t)) (readyAt c t i) in
+      let n : isPresent (readyAt c t i) ≡ false = rw (none-now i l, v .idle (r .idle) i l) in
+      k .there ∙ n
+
+  -- so none runs
+  pub still-ran : tab (λ i. false) 0 32 ≡ tab (ranAt c t) 0 32
+  still-ran = tab-cong (λ i. false) (ranAt c t) 0 32 (λ i p q. sym (ran-present c i (omega arith) t (absent i (omega arith))))
+
+  -- and the records stand as they stood
   pub still-records : (j : ℕ) → j < releaseCount (c .trace) → recordBy c (suc t) j ≡ recordBy c t j
   still-records j h =
       let n = g .named j h in
       let l : taskAt c j < 32 = omega (arith, g .tasks-few) in
-      let k = kept-opened (isCf (setupIn c)) (lowers (setupIn c) t (releasedAt c t) (stateAt c t)) (readyAt c t (taskAt c j)) in
-      let r : isPresent (readyAt c t (taskAt c j)) ≡ false = rw (none-now (taskAt c j) l, v .idle idle (taskAt c j) l) in
-      turn-idle c g t (w .next) reached-next (taskAt c j) l (k .there ∙ r) j h (omega arith)
+      turn-idle c g t next reached-next (taskAt c j) l (absent (taskAt c j) l) j h (omega arith)

@@ -6,16 +6,16 @@ use native.Mathlib.Numerals.{add-one}
 use native.Mathlib.Nat.{zero-add}
 use native.Mathlib.Omega.{arith}
 use mathlib.Core.Bool.{Bool, true, false}
+use mathlib.Core.Logic.{_⊎_, inl, inr}
+use native.Mathlib.Nat.{eq-or-lt-of-le}
 use lib.ListN.{length, getD, set, drop, length-set}
-use Rattle.rules.specs.Slot.{jobAt, isMissed}
-use Rattle.rules.specs.declared.Run.{Run}
-use Rattle.bridge.specs.Events.{event, entry}
+use Rattle.bridge.specs.Events.{entry}
 use lib.Seq.{drop-cons}
 use Rattle.rules.specs.Words.{tab, sum, countIn}
 use Rattle.rules.specs.Replay.{Record, numbers}
 use Rattle.bridge.specs.Lists.{tab-long, tab-snoc}
-use Rattle.bridge.specs.Notes.{numbers-long, put3, noteOne, noteTo}
-use Rattle.engine.specs.Walks.{openRecord}
+use Rattle.bridge.specs.Notes.{numbers-long, put3, eventAt, noteOne, noteTo}
+use Rattle.engine.specs.Walks.{Uneventful, openRecord}
 
 set3 : (p rest : List ℕ) (x y z a b c n : ℕ) → length p ≡ n
     → set (set (set (p ++ x ∷ y ∷ z ∷ rest) n a) (n + 1) b) (n + 2) c ≡ p ++ a ∷ b ∷ c ∷ rest
@@ -56,21 +56,24 @@ unfolding put3
 put3-long xs p r = simp length-set
 
 -- ---- the stores of one slot, one task more
-module _ (t : ℕ) (place : List ℕ) (next : Run) (fin dem : List Bool) (i : ℕ) (xs out new : List ℕ) (so-far : out ≡ noteTo t place next fin dem i xs) where
-  pub note-yes : (late b : Bool) → late ≡ isMissed (t + 1) (jobAt next i) → b ≡ event (getD fin i false) (getD dem i false) late → b ≡ true
-      → new ≡ put3 out (getD place i 0) (entry t (getD fin i false) (getD dem i false) late (getD out (getD place i 0 * 3 + 2) 0))
-      → new ≡ noteTo t place next fin dem (i + 1) xs
+module _ (t : ℕ) (place : List ℕ) (fin dem late : List Bool) (i : ℕ) (xs out new : List ℕ) (so-far : out ≡ noteTo t place fin dem late i xs) where
+  pub note-yes : (b : Bool) → b ≡ eventAt fin dem late i → b ≡ true
+      → new ≡ put3 out (getD place i 0) (entry t (getD fin i false) (getD dem i false) (getD late i false) (getD out (getD place i 0 * 3 + 2) 0))
+      → new ≡ noteTo t place fin dem late (i + 1) xs
   unfolding noteTo noteOne
-  note-yes late b l e h n =
-      let m : isMissed (suc t) (jobAt next i) ≡ late = rw (← add-one) (sym l) in
-      n ∙ rw (add-one i, m, sym e ∙ h, ← so-far)
+  note-yes b e h n = n ∙ rw (add-one i, sym e ∙ h, ← so-far)
 
-  pub note-no : (late b : Bool) → late ≡ isMissed (t + 1) (jobAt next i) → b ≡ event (getD fin i false) (getD dem i false) late → b ≡ false
-      → new ≡ out → new ≡ noteTo t place next fin dem (i + 1) xs
+  pub note-no : (b : Bool) → b ≡ eventAt fin dem late i → b ≡ false → new ≡ out → new ≡ noteTo t place fin dem late (i + 1) xs
   unfolding noteTo noteOne
-  note-no late b l e h n =
-      let m : isMissed (suc t) (jobAt next i) ≡ late = rw (← add-one) (sym l) in
-      n ∙ so-far ∙ sym (rw (add-one i, m, sym e ∙ h))
+  note-no b e h n = n ∙ so-far ∙ sym (rw (add-one i, sym e ∙ h))
+
+-- nothing happens to one task more
+pub uneventful-more : (fin dem late : List Bool) (i : ℕ) → Uneventful fin dem late i → eventAt fin dem late i ≡ false → Uneventful fin dem late (i + 1)
+uneventful-more fin dem late i h e j l = go (eq-or-lt-of-le {n = j} {m = i} (omega arith))
+  where
+    go : (j ≡ i) ⊎ (j < i) → eventAt fin dem late j ≡ false
+    go (inl z) = rw z e
+    go (inr k) = h j k
 
 -- a count of one more
 pub tally-yes : (p : ℕ → Bool) (s j : ℕ) → s ≡ countIn p 0 j → p j ≡ true → s + 1 ≡ countIn p 0 (j + 1)

@@ -1,20 +1,19 @@
--- What the engine's own functions ask and say, beside the rules: how a walk over the trace stands, and what one turn of it gives.
+-- What the engine's own functions ask and say, beside the definitions of "What happens at time t": how a walk over the slots of a case
+-- stands before a time, what one slot more makes of it, and how the records stand in the lent room meanwhile.
 use mathlib.Core.Path.{_≡_}
 use mathlib.Core.Bool.{Bool, true, false}
-use mathlib.Core.List.{List}
+use mathlib.Core.List.{List, _++_}
 use Prim.Native.Nat.{ℕ, suc, _+_, _*_, _≤_, _<_}
-use lib.ListN.{getD}
+use lib.ListN.{getD, drop}
 use Rattle.rules.specs.Words.{tab}
 use Rattle.rules.specs.Limits.{maxTasks}
 use Rattle.rules.specs.Case.{Case, releaseCount, timeOf, nameOf}
-use Rattle.rules.specs.Slot.{jobAt, isMissed}
-use Rattle.rules.specs.Replay.{releasedIn, stateAt, ranAt, finishedAt, demotedAt, Record, recordOf}
+use Rattle.rules.specs.Slot.{jobAt}
+use Rattle.rules.specs.Replay.{releasedIn, stateAt, ranAt, Record, recordOf, recordBy, numbers}
 use Rattle.rules.specs.declared.Job.the-variants.{Idle}
 use Rattle.rules.specs.declared.Run.{Run}
 use Rattle.bridge.specs.Turn.{lastPlace, Reached}
-use Rattle.bridge.specs.Events.{event}
-use Rattle.engine.specs.declared.Walk.{Walk}
-use Rattle.engine.specs.declared.Turn.{Turn}
+use Rattle.bridge.specs.Notes.{eventAt}
 
 -- a trace in order whose names are task numbers
 pub record Orderly (rs : List ℕ) : Type 0 where
@@ -29,29 +28,39 @@ places rs k = tab (λ i. lastPlace rs k (suc i)) 0 maxTasks
 abbrev pub releases : List ℕ → ℕ → ℕ → List Bool
 releases rs k t = tab (releasedIn rs k t) 0 maxTasks
 
--- at time t, before step 1: the state, the releases that have been, their places, and what is known of idle tasks
-pub record Walking (c : Case) (t : ℕ) (w : Walk) : Type 0 where
-  pub run : w .run ≡ stateAt c t
-  pub reached : Reached (c .trace) (w .next) t
-  pub place : w .place ≡ places (c .trace) (w .next)
-  pub idle : w .idle ≡ true → (i : ℕ) → i < maxTasks → jobAt (stateAt c t) i ≡ Idle
+-- at time t, before step 1: the state, the releases that have been and their places; where the last slot had no job every task is idle
+pub record Walking (c : Case) (t : ℕ) (run : Run) (place : List ℕ) (next jobs : ℕ) : Type 0 where
+  pub at-run : run ≡ stateAt c t
+  pub reached : Reached (c .trace) next t
+  pub at-place : place ≡ places (c .trace) next
+  pub idle : jobs ≡ 0 → (i : ℕ) → i < maxTasks → jobAt (stateAt c t) i ≡ Idle
 
 -- the slot at t has nothing to do: every task is idle, and the next release is not of this time
-pub record Rests (rs : List ℕ) (next : ℕ) (still : Bool) (t : ℕ) : Type 0 where
-  pub idle : still ≡ true
+pub record Rests (rs : List ℕ) (next jobs t : ℕ) : Type 0 where
+  pub idle : jobs ≡ 0
   pub later : next < releaseCount rs → timeOf rs next ≡ t → ⊥
 
--- after the slot at t: how the walk stands, and the slot's sets
-pub record Turns (c : Case) (t : ℕ) (u : Turn) : Type 0 where
-  pub walk : Walking c (suc t) (u .walk)
-  pub ran : u .ran ≡ tab (ranAt c t) 0 maxTasks
-  pub finished : u .finished ≡ tab (finishedAt c t) 0 maxTasks
-  pub demoted : u .demoted ≡ tab (demotedAt c t) 0 maxTasks
+-- after the slot at t: how the walk stands, and the set that ran
+pub record Turned (c : Case) (t : ℕ) (run : Run) (place : List ℕ) (next jobs : ℕ) (rs : List Bool) : Type 0 where
+  pub walks : Walking c (suc t) run place next jobs
+  pub ran : rs ≡ tab (ranAt c t) 0 maxTasks
+
+-- the set that ran in the last slot before a time
+abbrev pub LastRan : Case → ℕ → List Bool → Type 0
+LastRan c until rs = (t : ℕ) → until ≡ suc t → rs ≡ tab (ranAt c t) 0 maxTasks
+
+-- ---- the records in the lent room
+-- the room with the records as they stand at t; what is past them stays
+abbrev pub roomAt : Case → ℕ → List ℕ → List ℕ
+roomAt c t xs = numbers (tab (recordBy c t) 0 (releaseCount (c .trace))) ++ drop (releaseCount (c .trace) * 3) xs
 
 -- each task of which something is written has a place in the room
-abbrev pub Roomy : ℕ → List ℕ → Run → List Bool → List Bool → ℕ → Type 0
-Roomy t place next fin dem room =
-    (i : ℕ) → i < maxTasks → event (getD fin i false) (getD dem i false) (isMissed (suc t) (jobAt next i)) ≡ true → getD place i 0 * 3 + 2 < room
+abbrev pub Roomy : List ℕ → List Bool → List Bool → List Bool → ℕ → Type 0
+Roomy place fin dem late room = (i : ℕ) → i < maxTasks → eventAt fin dem late i ≡ true → getD place i 0 * 3 + 2 < room
+
+-- nothing happens to the jobs of the first n tasks
+abbrev pub Uneventful : List Bool → List Bool → List Bool → ℕ → Type 0
+Uneventful fin dem late n = (i : ℕ) → i < n → eventAt fin dem late i ≡ false
 
 -- a record before its job's first slot
 abbrev pub openRecord : Record

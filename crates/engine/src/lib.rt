@@ -1,8 +1,8 @@
 // The replay: slot after slot, with the records written as they stand; and the running set of one slot.
 ghost use mathlib.Core.Path.{_≡_};
-ghost use mathlib.Core.Bool.{Bool, true, false, _&&_, _||_};
-ghost use mathlib.Core.List.{List, _++_};
-ghost use Prim.Native.Nat.{ℕ, suc, _+_, _*_, _≤_, _<_};
+ghost use mathlib.Core.Bool.{true, false};
+ghost use mathlib.Core.List.{_++_};
+ghost use Prim.Native.Nat.{suc, _+_, _*_, _≤_, _<_};
 ghost use lib.Dec.{eqb};
 ghost use lib.ListN.{length, getD, drop};
 ghost use Rattle.rules.specs.Words.{pick, tab, countIn};
@@ -16,27 +16,26 @@ ghost use Rattle.counts.specs.Needs.{Counts};
 ghost use Rattle.bridge.specs.Turn.{Reached};
 ghost use Rattle.bridge.specs.Events.{event, entry};
 ghost use Rattle.bridge.specs.Notes.{put3, noteTo};
-ghost use Rattle.engine.specs.Walks.{Orderly, places, releases, Rests, Roomy, Walking, Turns, openRecord};
+ghost use Rattle.engine.specs.Walks.{Orderly, places, releases, Rests, Roomy, Uneventful, roomAt, Walking, Turned, LastRan, openRecord};
 use rules::Replayed;
 use rules::Run;
 use rules::Running;
 
 // ---- the trace
 
-// The releases of one time: which tasks they release, where each task's last one stands, and the first that comes later.
-pub struct Arrivals {
-    pub next: usize,
-    pub released: [bool; 32],
-    pub place: [usize; 32],
-}
-
-fn take_releases(trace: &[u32], from: usize, clock: u32, before: [usize; 32]) -> Arrivals
-    requires { ⌜ Orderly (now trace) × Reached (now trace) from clock × (before ≡ places (now trace) from) ⌝ }
-    ensures { λ r. ⌜ Reached (now (trace .entry)) (r .next) (suc clock) × (r .place ≡ places (now (trace .entry)) (r .next)) × (r .released ≡ releases (now (trace .entry)) (releaseCount (now (trace .entry))) clock) ⌝ }
+// The releases of one time: the first that comes later, with the tasks that are released and the place of each task's last release.
+fn take_releases(
+    trace: &[u32],
+    from: usize,
+    clock: u32,
+    place: &mut [usize; 32],
+    released: &mut [bool; 32],
+) -> usize
+    requires { ⌜ Orderly (now trace) × Reached (now trace) from clock × (now place ≡ places (now trace) from) ⌝ }
+    ensures { λ next. ⌜ Reached (now (trace .entry)) next (suc clock) × (now (place .exit) ≡ places (now (trace .entry)) next) × (now (released .exit) ≡ releases (now (trace .entry)) (releaseCount (now (trace .entry))) clock) ⌝ }
 {
+    *released = [false; 32];
     let n = trace.len() / 2;
-    let mut released = [false; 32];
-    let mut place = before;
     let mut k = from;
     while k < n {
         if trace[k * 2] == clock {
@@ -45,101 +44,24 @@ fn take_releases(trace: &[u32], from: usize, clock: u32, before: [usize; 32]) ->
             place[i] = k;
             k += 1;
         } else {
-            return Arrivals {
-                next: k,
-                released: released,
-                place: place,
-            };
+            return k;
         }
     }
-    Arrivals {
-        next: k,
-        released: released,
-        place: place,
-    }
+    k
 }
 
-// ---- one slot of a case
-
-// Where a replay stands: the run, the place of each task's last release, the first release still to come, and whether every task is
-// known to be idle.
-pub struct Walk {
-    pub run: Run,
-    pub place: [usize; 32],
-    pub next: usize,
-    pub idle: bool,
-}
-
-fn start() -> Walk
-    ensures { λ w. ⌜ (w .run ≡ fresh) × (w .place ≡ tab (λ i. 0) 0 32) × (w .next ≡ 0) ⌝ }
-{
-    let run = slot::fresh_run();
-    Walk {
-        run: run,
-        place: [0; 32],
-        next: 0,
-        idle: true,
-    }
-}
-
-// Whether the slot at `clock` has nothing to do, so that it can be passed over.
-fn rests(trace: &[u32], next: usize, idle: bool, clock: u32) -> bool
-    ensures { λ r. ⌜ (r ≡ true → Rests (now (trace .entry)) next idle clock) ⌝ }
+// Whether the slot at `clock` has nothing to do, so that it can be passed over: the last slot had no job, and no release comes now.
+fn rests(trace: &[u32], next: usize, jobs: usize, clock: u32) -> bool
+    ensures { λ r. ⌜ (r ≡ true → Rests (now (trace .entry)) next jobs clock) ⌝ }
 {
     let n = trace.len() / 2;
-    if idle {
+    if jobs == 0 {
         if next < n {
             return trace[next * 2] != clock;
         }
         return true;
     }
     false
-}
-
-// Where it stands after a slot, and the sets that ran, finished and were demoted in it.
-pub struct Turn {
-    pub walk: Walk,
-    pub ran: [bool; 32],
-    pub finished: [bool; 32],
-    pub demoted: [bool; 32],
-}
-
-// The releases of a time and its slot.
-fn next_turn(
-    procs: u32,
-    policy: u32,
-    table: &[u32],
-    counts: [u32; 32],
-    end: u32,
-    trace: &[u32],
-    w: Walk,
-    clock: u32,
-) -> Turn
-    requires { ⌜ Accepted (caseOf procs policy (now table) end (now trace)) × Counts procs (now table) counts × Walking (caseOf procs policy (now table) end (now trace)) clock w × (clock < end) ⌝ }
-    ensures { λ t. ⌜ Turns (caseOf procs policy (now (table .entry)) end (now (trace .entry))) clock t ⌝ }
-{
-    let run = w.run;
-    let place = w.place;
-    let a = take_releases(trace, w.next, clock, place);
-    let released = a.released;
-    let s = slot::step(run, procs, policy, table, counts, released, clock);
-    let after = s.run;
-    let places = a.place;
-    let ran = s.ran;
-    let finished = s.finished;
-    let demoted = s.demoted;
-    let walk = Walk {
-        run: after,
-        place: places,
-        next: a.next,
-        idle: s.jobs == 0,
-    };
-    Turn {
-        walk: walk,
-        ran: ran,
-        finished: finished,
-        demoted: demoted,
-    }
 }
 
 // ---- the records
@@ -190,30 +112,60 @@ fn note_task(out: &mut [u32], p: usize, finished: bool, demoted: bool, late: boo
     out[p * 3 + 2] = d;
 }
 
-// Writes what a slot changes in the records. A job that is still there at its deadline is missed: nothing more comes of it.
+// Writes what happened to each job in a slot. A late job is still there at its deadline: nothing more comes of it, and it is missed.
 fn note_all(
     out: &mut [u32],
-    place: [usize; 32],
-    next: Run,
-    finished: [bool; 32],
-    demoted: [bool; 32],
+    place: &[usize; 32],
+    finished: &[bool; 32],
+    demoted: &[bool; 32],
+    late: &[bool; 32],
     clock: u32,
 )
-    requires { ⌜ Roomy clock place next finished demoted (length (now out)) × (clock < 100000) ⌝ }
-    ensures { λ r. ⌜ now (out .exit) ≡ noteTo clock place next finished demoted 32 (now (out .entry)) ⌝ }
+    requires { ⌜ Roomy (now place) (now finished) (now demoted) (now late) (length (now out)) × (clock < 100000) ⌝ }
+    ensures { λ r. ⌜ now (out .exit) ≡ noteTo clock (now (place .entry)) (now (finished .entry)) (now (demoted .entry)) (now (late .entry)) 32 (now (out .entry)) ⌝ }
 {
     let mut i: usize = 0;
     while i < 32 {
-        let t = next.tasks[i];
-        let j = t.job;
-        let late = slot::is_missed(j, clock + 1);
         let fin = finished[i];
         let dem = demoted[i];
-        if is_event(fin, dem, late) {
+        let lat = late[i];
+        if is_event(fin, dem, lat) {
             let p = place[i];
-            note_task(out, p, fin, dem, late, clock);
+            note_task(out, p, fin, dem, lat, clock);
         }
         i += 1;
+    }
+}
+
+// Whether anything happened to a job in a slot. All 32 are looked at whatever comes first: such a loop is made into a few steps.
+fn any_event(finished: &[bool; 32], demoted: &[bool; 32], late: &[bool; 32]) -> bool
+    ensures { λ r. ⌜ (r ≡ false → Uneventful (now (finished .entry)) (now (demoted .entry)) (now (late .entry)) 32) ⌝ }
+{
+    let mut any = false;
+    let mut i: usize = 0;
+    while i < 32 {
+        if is_event(finished[i], demoted[i], late[i]) {
+            any = true;
+        }
+        i += 1;
+    }
+    any
+}
+
+// Writes what a slot changes in the records; in most slots that is nothing.
+fn note_slot(
+    out: &mut [u32],
+    place: &[usize; 32],
+    finished: &[bool; 32],
+    demoted: &[bool; 32],
+    late: &[bool; 32],
+    clock: u32,
+)
+    requires { ⌜ Roomy (now place) (now finished) (now demoted) (now late) (length (now out)) × (clock < 100000) ⌝ }
+    ensures { λ r. ⌜ now (out .exit) ≡ noteTo clock (now (place .entry)) (now (finished .entry)) (now (demoted .entry)) (now (late .entry)) 32 (now (out .entry)) ⌝ }
+{
+    if any_event(finished, demoted, late) {
+        note_all(out, place, finished, demoted, late, clock);
     }
 }
 
@@ -231,6 +183,104 @@ fn open_records(out: &mut [u32], n: usize)
     }
 }
 
+// ---- the slots of a case
+
+// The releases of a time and its slot: the run that it leaves, the set that ran, and how the trace then stands. The records are
+// brought up to date where they are wanted.
+fn turn(
+    run: Run,
+    procs: u32,
+    policy: u32,
+    table: &[u32],
+    counts: &[u32; 32],
+    end: u32,
+    trace: &[u32],
+    clock: u32,
+    place: &mut [usize; 32],
+    next: &mut usize,
+    jobs: &mut usize,
+    ran: &mut [bool; 32],
+    noting: bool,
+    out: &mut [u32],
+) -> Run
+    requires { ⌜ Accepted (caseOf procs policy (now table) end (now trace)) × Counts procs (now table) (now counts) × Walking (caseOf procs policy (now table) end (now trace)) clock run (now place) (now next) (now jobs) × (clock < end) × (noting ≡ true → now out ≡ roomAt (caseOf procs policy (now table) end (now trace)) clock (now out)) ⌝ }
+    ensures { λ after. ⌜ Turned (caseOf procs policy (now (table .entry)) end (now (trace .entry))) clock after (now (place .exit)) (now (next .exit)) (now (jobs .exit)) (now (ran .exit)) × (noting ≡ true → now (out .exit) ≡ roomAt (caseOf procs policy (now (table .entry)) end (now (trace .entry))) (suc clock) (now (out .entry))) ⌝ }
+{
+    let mut released = [false; 32];
+    let mut demoted = [false; 32];
+    let mut finished = [false; 32];
+    let mut late = [false; 32];
+    let from = *next;
+    *next = take_releases(trace, from, clock, place, &mut released);
+    let after = slot::step(
+        run,
+        procs,
+        policy,
+        table,
+        counts,
+        &released,
+        clock,
+        jobs,
+        &mut demoted,
+        ran,
+        &mut finished,
+        &mut late,
+    );
+    if noting {
+        note_slot(out, place, &finished, &demoted, &late, clock);
+    }
+    after
+}
+
+// The slots before a time, from the first run on: the set that ran in the last of them, with the records where they are wanted. This one
+// loop serves every call, so that a slot is compiled into it and the run is copied less.
+fn walk(
+    first: Run,
+    procs: u32,
+    policy: u32,
+    table: &[u32],
+    counts: [u32; 32],
+    end: u32,
+    trace: &[u32],
+    until: u32,
+    noting: bool,
+    out: &mut [u32],
+) -> [bool; 32]
+    requires { ⌜ Accepted (caseOf procs policy (now table) end (now trace)) × Counts procs (now table) counts × (first ≡ fresh) × (until ≤ end) × (noting ≡ true → now out ≡ roomAt (caseOf procs policy (now table) end (now trace)) 0 (now out)) ⌝ }
+    ensures { λ ran. ⌜ LastRan (caseOf procs policy (now (table .entry)) end (now (trace .entry))) until ran × (noting ≡ true → now (out .exit) ≡ roomAt (caseOf procs policy (now (table .entry)) end (now (trace .entry))) until (now (out .entry))) ⌝ }
+{
+    let mut run = first;
+    let mut place: [usize; 32] = [0; 32];
+    let mut next: usize = 0;
+    let mut jobs: usize = 0;
+    let mut ran = [false; 32];
+    let mut clock: u32 = 0;
+    while clock < until {
+        if rests(trace, next, jobs, clock) {
+            ran = [false; 32];
+        } else {
+            run = turn(
+                run,
+                procs,
+                policy,
+                table,
+                &counts,
+                end,
+                trace,
+                clock,
+                &mut place,
+                &mut next,
+                &mut jobs,
+                &mut ran,
+                noting,
+                out,
+            );
+        }
+        clock += 1;
+    }
+    ran
+}
+
 // The replay of an accepted case, into room that is long enough.
 fn replay_run(
     procs: u32,
@@ -246,20 +296,19 @@ fn replay_run(
 {
     let n = trace.len() / 2;
     open_records(out, n);
-    let mut walk = start();
-    let mut clock: u32 = 0;
-    while clock < end {
-        if !rests(trace, walk.next, walk.idle, clock) {
-            let t = next_turn(procs, policy, table, counts, end, trace, walk, clock);
-            walk = t.walk;
-            let place = walk.place;
-            let run = walk.run;
-            let finished = t.finished;
-            let demoted = t.demoted;
-            note_all(out, place, run, finished, demoted, clock);
-        }
-        clock += 1;
-    }
+    let first = slot::fresh_run();
+    walk(
+        first,
+        procs,
+        policy,
+        table,
+        counts,
+        end,
+        trace,
+        end,
+        true,
+        out,
+    );
 }
 
 // How many of the n records are marked v.
@@ -307,31 +356,6 @@ pub fn replay(
 
 // ---- the running set
 
-// Where the replay of an accepted case stands at a time that is not after the end.
-fn walk_to(
-    procs: u32,
-    policy: u32,
-    table: &[u32],
-    counts: [u32; 32],
-    end: u32,
-    trace: &[u32],
-    time: u32,
-) -> Walk
-    requires { ⌜ Accepted (caseOf procs policy (now table) end (now trace)) × Counts procs (now table) counts × (time ≤ end) ⌝ }
-    ensures { λ w. ⌜ Walking (caseOf procs policy (now (table .entry)) end (now (trace .entry))) time w ⌝ }
-{
-    let mut walk = start();
-    let mut clock: u32 = 0;
-    while clock < time {
-        if !rests(trace, walk.next, walk.idle, clock) {
-            let t = next_turn(procs, policy, table, counts, end, trace, walk, clock);
-            walk = t.walk;
-        }
-        clock += 1;
-    }
-    walk
-}
-
 // A set as a number: bit i for the task at i.
 fn set_number(set: [bool; 32]) -> u32
     ensures { λ r. ⌜ r ≡ setNumber (λ i. getD set i false) ⌝ }
@@ -367,9 +391,20 @@ pub fn running(
         return Running::Refused { number, place };
     }
     let free = counts::free_counts(procs, table);
-    let walk = walk_to(procs, policy, table, free, end, trace, slot);
-    let t = next_turn(procs, policy, table, free, end, trace, walk, slot);
-    let ran = t.ran;
+    let first = slot::fresh_run();
+    let mut none: [u32; 0] = [];
+    let ran = walk(
+        first,
+        procs,
+        policy,
+        table,
+        free,
+        end,
+        trace,
+        slot + 1,
+        false,
+        &mut none,
+    );
     Running::Ran {
         set: set_number(ran),
     }

@@ -7,7 +7,7 @@ use native.Mathlib.Omega.{arith}
 use lib.Dec.{eqb, leb, ltb}
 use lib.ListN.{getD}
 use Rattle.rules.specs.Words.{pick, bit}
-use Rattle.rules.specs.Slot.{Setup, TaskSet, isCf, noTask, runOf, withJob, jobAt, isPresent, leftOf, dueOf, kind, present, eachTask, demoted, jobsNow, contentionFree, loweredTask, lowered, opened, jobBefore, comesBefore, rank, chosen, lastUnit, workedTask, worked, after, ran, finished, missed}
+use Rattle.rules.specs.Slot.{Setup, TaskSet, isCf, noTask, runOf, withJob, jobAt, isPresent, leftOf, dueOf, kind, present, eachTask, demoted, jobsNow, contentionFree, loweredTask, lowered, opened, jobBefore, comesBefore, rank, chosen, lastUnit, workedTask, worked, after, ran, finished}
 use Rattle.rules.specs.declared.Job.{Job}
 use Rattle.rules.specs.declared.Job.the-variants.{Idle, Normal, Demoted}
 use Rattle.rules.specs.declared.Task.{Task}
@@ -16,8 +16,6 @@ use Rattle.bridge.specs.Lists.{mapAt-at, tab-cong}
 use Rattle.bridge.specs.Steps.{Full, demoted-full, readied-full}
 use Rattle.bridge.specs.Sums.{sum-cong}
 use Rattle.bridge.specs.Fuse.{fuse, keep-all, same-each}
-use Rattle.slot.specs.declared.Stirred.{Stirred}
-use Rattle.slot.specs.declared.Worked.{Worked}
 use Rattle.slot.specs.Queues.{Queued, limitOf}
 use Rattle.slot.specs.Passes.{Stirs, calmedJob, endedJob, endedTask, runsBy, Works}
 use Rattle.slot.specs.Stepped.{Stepped}
@@ -107,25 +105,24 @@ module _ (g : Setup) (now : ℕ) (d : Run) (full : Full d) (some : 1 ≤ g .proc
       ends g now d full (λ i t. runsBy (g .policy) now limit i (t .job)) chosen-as ∙
       ap (λ b. eachTask (λ i t. endedTask b (runsBy (g .policy) now limit i (t .job)) t) d) calm-as
 
-module _ (g : Setup) (now : ℕ) (s : TaskSet) (r : Run) (full : Full r) (some : 1 ≤ g .procs) (keys : List ℕ) (a : Stirred) (p : Stirs g now s r keys a) where
-  pub stepped : (calm : Bool) (limit : ℕ) → calm ≡ (eqb (g .policy) 1 && leb (a .jobs) (g .procs)) → limit ≡ limitOf (g .procs) keys (a .jobs) → (w : Worked)
-      → Works (g .policy) now calm limit (a .run) w
-      → Stepped g now s r (record { run = w .run; ran = w .ran; finished = w .finished; missed = a .missed; demoted = a .demoted; jobs = a .jobs })
+module _ (g : Setup) (now : ℕ) (s : TaskSet) (r d : Run) (full : Full r) (some : 1 ≤ g .procs) (keys : List ℕ) (n : ℕ) (ds : List Bool) (p : Stirs g now s r d keys n ds) where
+  pub stepped : (calm : Bool) (limit : ℕ) → calm ≡ (eqb (g .policy) 1 && leb n (g .procs)) → limit ≡ limitOf (g .procs) keys n
+      → (e : Run) (rs fs ls : List Bool) → Works (g .policy) now calm limit d e rs fs ls → Stepped g now s r e n ds rs fs ls
   unfolding after opened ran finished jobsNow
-  stepped calm limit c m w v =
+  stepped calm limit c m e rs fs ls v =
       let f = demoted-full g _ (readied-full g now s r full) in
-      let q : Looked g now (a .run) calm limit keys (a .jobs) = record { queue = p .queue; greatest = m; quiet = c } in
+      let q : Looked g now d calm limit keys n = record { queue = p .queue; greatest = m; quiet = c } in
       let k = rw (p .run) at q in
       let x = rw (p .run) at v in
       record {
-        run = x .run ∙ sym (ends-as g now _ f some calm limit keys (a .jobs) k);
-        ran = x .ran ∙ tab-cong _ _ 0 32 (λ i u l. sym (chosen-as g now _ f some calm limit keys (a .jobs) k i (omega arith)));
+        run = x .run ∙ sym (ends-as g now _ f some calm limit keys n k);
+        jobs = k .queue .all;
+        demoted = p .demoted;
+        ran = x .ran ∙ tab-cong _ _ 0 32 (λ i u l. sym (chosen-as g now _ f some calm limit keys n k i (omega arith)));
         finished =
             x .finished ∙
             tab-cong _ _ 0 32
             (λ i u l.
-            sym (ap₂ (λ a z. a && lastUnit z) (chosen-as g now _ f some calm limit keys (a .jobs) k i (omega arith)) (kept g now _ f i (omega arith) .left)));
-        missed = p .missed;
-        demoted = p .demoted;
-        jobs = k .queue .all;
+            sym (ap₂ (λ a z. a && lastUnit z) (chosen-as g now _ f some calm limit keys n k i (omega arith)) (kept g now _ f i (omega arith) .left)));
+        late = v .late;
       }

@@ -7,14 +7,13 @@ use mathlib.Core.List.{List}
 use lib.Dec.{leb}
 use Rattle.rules.specs.Words.{pick, tab}
 use Rattle.rules.specs.Case.{execution, deadline}
-use Rattle.rules.specs.Slot.{Setup, TaskSet, jobAt, isPresent, leftOf, dueOf, withJob, eachTask, judgedTask, readied, demoted, loweredJob, lastUnit, workedJob, missed, demotedNow}
+use Rattle.rules.specs.Slot.{Setup, TaskSet, jobAt, isPresent, leftOf, dueOf, withJob, eachTask, judgedTask, readied, demoted, loweredJob, lastUnit, workedJob, demotedNow}
 use Rattle.rules.specs.declared.Job.{Job}
 use Rattle.rules.specs.declared.Job.the-variants.{Normal, Demoted}
 use Rattle.rules.specs.declared.Task.{Task}
 use Rattle.rules.specs.declared.Run.{Run}
-use Rattle.slot.specs.declared.Stirred.{Stirred}
-use Rattle.slot.specs.declared.Worked.{Worked}
 use Rattle.slot.specs.Queues.{keyOf, Queued}
+use Rattle.slot.specs.Stepped.{lateIn}
 
 -- ---- the first pass
 -- a task with the job that step 2 gives it
@@ -29,12 +28,11 @@ readiedTask table i free released now t = pick released (startedTask table i fre
 abbrev pub sunkTask : Bool → Task → Task
 sunkTask low t = pick low (withJob t (Demoted (leftOf (t .job)) (dueOf (t .job)))) t
 
--- what the first pass answers, with the keys in the queue
-pub record Stirs (g : Setup) (now : ℕ) (released : TaskSet) (r : Run) (keys : List ℕ) (s : Stirred) : Type 0 where
-  pub run : s .run ≡ demoted g (readied g now released r)
-  pub missed : s .missed ≡ tab (missed g now released r) 0 32
-  pub demoted : s .demoted ≡ tab (demotedNow g now released r) 0 32
-  pub queue : Queued (g .policy) now (s .run) keys (s .jobs)
+-- what the first pass answers: the run after step 3, the queue of its jobs, and who was demoted
+pub record Stirs (g : Setup) (now : ℕ) (released : TaskSet) (r s : Run) (keys : List ℕ) (n : ℕ) (ds : List Bool) : Type 0 where
+  pub run : s ≡ demoted g (readied g now released r)
+  pub demoted : ds ≡ tab (demotedNow g now released r) 0 32
+  pub queue : Queued (g .policy) now s keys n
 
 -- ---- the last pass
 -- step 4, where `calm` says that free counts go down
@@ -52,8 +50,9 @@ endedTask calm runs t = withJob t (endedJob runs (calmedJob calm (t .job)))
 abbrev pub runsBy : ℕ → ℕ → ℕ → ℕ → Job → Bool
 runsBy policy now limit i j = isPresent j && leb (keyOf policy now j i) limit
 
--- what the last pass answers
-pub record Works (policy now : ℕ) (calm : Bool) (limit : ℕ) (r : Run) (w : Worked) : Type 0 where
-  pub run : w .run ≡ eachTask (λ i t. endedTask calm (runsBy policy now limit i (t .job)) t) r
-  pub ran : w .ran ≡ tab (λ i. runsBy policy now limit i (jobAt r i)) 0 32
-  pub finished : w .finished ≡ tab (λ i. runsBy policy now limit i (jobAt r i) && lastUnit (leftOf (jobAt r i))) 0 32
+-- what the last pass answers: the run after step 6, and who ran, finished and is late
+pub record Works (policy now : ℕ) (calm : Bool) (limit : ℕ) (r s : Run) (rs fs ls : List Bool) : Type 0 where
+  pub run : s ≡ eachTask (λ i t. endedTask calm (runsBy policy now limit i (t .job)) t) r
+  pub ran : rs ≡ tab (λ i. runsBy policy now limit i (jobAt r i)) 0 32
+  pub finished : fs ≡ tab (λ i. runsBy policy now limit i (jobAt r i) && lastUnit (leftOf (jobAt r i))) 0 32
+  pub late : ls ≡ lateIn (suc now) s

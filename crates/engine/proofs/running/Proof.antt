@@ -1,7 +1,9 @@
--- `engine::running` meets its contract.
+-- `engine::running` meets its contract: the set that ran last before the time after the named slot is that slot's.
 use mathlib.Core.Path.{ap, _∙_}
+use mathlib.Core.Bool.{false≢true}
 use mathlib.Core.List.{[], _∷_}
 use Prim.Native.Nat.{ℕ}
+use native.Mathlib.Numerals.{add-one}
 use native.Mathlib.Omega.{arith}
 use Rattle.rules.specs.Answers.{result}
 use Rattle.rules.specs.Calls.{runningAnswer}
@@ -25,15 +27,21 @@ free-counts-requires c κs =
     let w = running-clear _ _ (clear _ _ (c .before .running-fault .ensures) (c .if1 .left)) in
     (sound _ (w .0), legal _ (w .0) .procs-few)
 
-walk-to-requires : tie.Need-walk-to-requires
-walk-to-requires c κs =
-    let w = running-clear _ _ (clear _ _ (c .before .before .running-fault .ensures) (c .before .if1 .left)) in
-    (w .0, c .free-counts .ensures, omega (arith, w .1))
+fresh-run-requires : tie.Need-fresh-run-requires
+fresh-run-requires c κs = search needs
 
-next-turn-requires : tie.Need-next-turn-requires
-next-turn-requires c κs =
+add-walk : tie.Need-add-walk
+add-walk c =
     let w = running-clear _ _ (clear _ _ (c .before .before .before .running-fault .ensures) (c .before .before .if1 .left)) in
-    (w .0, c .before .free-counts .ensures, c .walk-to .ensures, w .1)
+    omega (arith, w .1, legal _ (w .0) .end-small)
+
+slice-aggregate-walk : tie.Need-slice-aggregate-walk
+slice-aggregate-walk c = search needs
+
+walk-requires : tie.Need-walk-requires
+walk-requires c κs =
+    let w = running-clear _ _ (clear _ _ (c .before .before .before .before .running-fault .ensures) (c .before .before .before .if1 .left)) in
+    (w .0, c .before .before .free-counts .ensures, c .before .fresh-run .ensures, omega (arith, w .1), λ z. absurd (false≢true z))
 
 set-number-requires : tie.Need-set-number-requires
 set-number-requires c κs = search needs
@@ -41,9 +49,9 @@ set-number-requires c κs = search needs
 returns-2 : tie.Need-returns-2
 unfolding runningAnswer
 returns-2 c =
-    let e = c .before .before .before .before .before .before .running-fault .ensures in
-    let n = c .set-number .ensures ∙ array-number _ _ (c .before .before .next-turn .ensures .ran) in
-    ap (λ (x : ℕ). result (x ∷ [])) n ∙ settles _ _ e _ (c .before .before .before .before .before .if1 .left)
+    let e = c .before .before .before .before .before .before .before .running-fault .ensures in
+    let n = c .set-number .ensures ∙ array-number _ _ (c .before .before .walk .ensures .0 _ (add-one _)) in
+    ap (λ (x : ℕ). result (x ∷ [])) n ∙ settles _ _ e _ (c .before .before .before .before .before .before .if1 .left)
 
 pub running-spec : {M : Type 1} → statement M
 running-spec =
@@ -52,7 +60,9 @@ running-spec =
     running-fault-requires
     returns
     free-counts-requires
-    walk-to-requires
-    next-turn-requires
+    fresh-run-requires
+    add-walk
+    slice-aggregate-walk
+    walk-requires
     set-number-requires
     returns-2)

@@ -1,22 +1,22 @@
 -- `engine::take_releases` meets its contract.
 use Rattle.rules.specs.Words.{tab}
-use borrow.Author.Needs.{needs}
 use native.Mathlib.Omega.{arith}
 use mathlib.Core.Path.{refl}
 use Prim.Native.Nat.{_-_, _≤_}
 use Rattle.engine.proofs.Trace.{Taking, taking-none, taking-more, taking-done}
+use borrow.Author.Needs.{needs}
 use Rattle.engine.proofs.take_releases.Statement.{statement}
 use Rattle.engine.proofs.take_releases.Tie as tie
 
 abbrev Inv-loop : tie.InvT-loop
-Inv-loop trace from clock n released₀ place₀ k₀ released place k = (from ≤ k) × Taking trace clock k place released
+Inv-loop trace from clock place₀ released₀ n k₀ place released k = (from ≤ k) × Taking trace clock k place released
 
 abbrev μ-loop : tie.MeasureT-loop
-μ-loop trace from clock n released₀ place₀ k₀ released place k = n - k
+μ-loop trace from clock place₀ released₀ n k₀ place released k = n - k
 
 loop-holds : tie.Need-loop-holds Inv-loop μ-loop
 unfolding tab
-loop-holds c = (omega arith, taking-none _ _ _ _ (c .pre .1) (c .pre .2))
+loop-holds c = (omega arith, taking-none _ _ _ _ (c .before .pre .1) (c .before .pre .2))
 
 mul-if1 : tie.Need-mul-if1 Inv-loop μ-loop
 mul-if1 c = search needs
@@ -42,32 +42,27 @@ shared-slice-read-i c = search needs
 cast-i : tie.Need-cast-i Inv-loop μ-loop
 cast-i c =
     let k = c .before .before .before .before .loop .k in
-    let w = c .before .before .before .before .before .pre .0 .named k (omega arith) in
-    omega (arith, w)
+    omega (arith, c .before .before .before .before .before .before .pre .0 .named k (omega arith))
 
 sub-i : tie.Need-sub-i Inv-loop μ-loop
 sub-i c =
     let k = c .before .before .before .before .loop .k in
-    let w = c .before .before .before .before .before .pre .0 .named k (omega arith) in
-    omega (arith, w)
+    omega (arith, c .before .before .before .before .before .before .pre .0 .named k (omega arith))
 
-array-write-released : tie.Need-array-write-released Inv-loop μ-loop
-array-write-released c =
+element-write-released : tie.Need-element-write-released Inv-loop μ-loop
+element-write-released c =
     let k = c .before .before .before .before .loop .k in
-    let w = c .before .before .before .before .before .pre .0 .named k (omega arith) in
-    omega (arith, w)
+    omega (arith, c .before .before .before .before .before .before .pre .0 .named k (omega arith))
 
 mul-place : tie.Need-mul-place Inv-loop μ-loop
 mul-place c =
     let k = c .before .before .before .before .loop .k in
-    let w = c .before .before .before .before .before .pre .0 .named k (omega arith) in
-    omega (arith, w)
+    omega (arith, c .before .before .before .before .before .before .pre .0 .named k (omega arith))
 
-array-write-place : tie.Need-array-write-place Inv-loop μ-loop
-array-write-place c =
+element-write-place : tie.Need-element-write-place Inv-loop μ-loop
+element-write-place c =
     let k = c .before .before .before .before .loop .k in
-    let w = c .before .before .before .before .before .pre .0 .named k (omega arith) in
-    omega (arith, w)
+    omega (arith, c .before .before .before .before .before .before .pre .0 .named k (omega arith))
 
 add-k : tie.Need-add-k Inv-loop μ-loop
 add-k c = search needs
@@ -78,21 +73,19 @@ loop-less c = search needs
 loop-again : tie.Need-loop-again Inv-loop μ-loop
 loop-again c =
     let l = c .before .before .before .before .loop in
-    let q = c .before .before .before .before .before .pre in
+    let q = c .before .before .before .before .before .before .pre in
     (omega arith, taking-more _ _ (l .k) _ _ _ (q .0) (c .before .before .before .loop-test .taken) (c .before .if1 .taken) refl (l .inv .1))
 
 returns : tie.Need-returns Inv-loop μ-loop
 returns c =
     let l = c .before .before .before .loop in
-    let q = c .before .before .before .before .pre in
-    let t = taking-done _ _ (l .k) _ _ (q .0) (λ h e. c .if1 .left e) (l .inv .1) in
+    let t = taking-done _ _ (l .k) _ _ (c .before .before .before .before .before .pre .0) (λ h e. c .if1 .left e) (l .inv .1) in
     (t .reached, t .at-place, t .at-released)
 
 returns-2 : tie.Need-returns-2 Inv-loop μ-loop
 returns-2 c =
     let l = c .before .loop in
-    let q = c .before .before .pre in
-    let t = taking-done _ _ (l .k) _ _ (q .0) (λ h e. omega arith) (l .inv .1) in
+    let t = taking-done _ _ (l .k) _ _ (c .before .before .before .pre .0) (λ h e. omega arith) (l .inv .1) in
     (t .reached, t .at-place, t .at-released)
 
 pub take-releases-spec : {M : Type 1} → statement M
@@ -111,9 +104,9 @@ take-releases-spec =
     shared-slice-read-i
     cast-i
     sub-i
-    array-write-released
+    element-write-released
     mul-place
-    array-write-place
+    element-write-place
     add-k
     loop-less
     loop-again
