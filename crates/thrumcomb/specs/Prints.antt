@@ -1,4 +1,5 @@
--- What the program prints for what is asked of a text, byte for byte, and what its writers ask of the numbers that they print.
+-- What the program prints for what is asked of a text, byte for byte (document 01, "The case text"; the words counts, slot and write are
+-- the project's own), and what its writers ask of the numbers that they print. The contract of `answer` says `textSays`.
 use mathlib.Core.Path.{_≡_, refl}
 use Prim.Native.Nat.{ℕ, _+_, _*_, _-_, _^_, _≤_, _<_}
 use mathlib.Core.List.{List, []}
