@@ -228,6 +228,36 @@ class PublicCalls(unittest.TestCase):
         self.assertLessEqual(set(there), named)
 
 
+class Assumed(unittest.TestCase):
+    """What a program assumes, by the check that built it."""
+
+    def test_every_program_assumes_what_the_page_says(self):
+        programs = [os.path.basename(os.path.dirname(os.path.dirname(path)))
+                    for path in glob.glob(os.path.join(ROOT, "crates", "*", "src", "main.rt"))]
+        said = {row.text("Program").strip("`"): row.text("`axioms=`")
+                for row in rows() if row.text("Program")}
+        self.assertEqual(set(said), set(programs))
+        for name, count in said.items():
+            with self.subTest(program=name):
+                check = text_of(os.path.join("target", "log", name + ".say"))
+                found = re.search(r"^logic=proved .*?axioms=(\d+)", check, re.MULTILINE)
+                self.assertEqual(found and found.group(1), count)
+
+    def test_no_public_call_reaches_a_c_function(self):
+        needs = {}
+        for line in text_of("crates.txt").splitlines():
+            name, colon, others = line.partition("#")[0].partition(":")
+            if colon:
+                needs[name.strip()] = others.split()
+        reached, left = set(), ["abi"]
+        while left:
+            name = left.pop()
+            reached.add(name)
+            left += [other for other in needs.get(name, []) if other not in reached]
+        self.assertLessEqual({"counts", "engine", "reader", "writer"}, reached)
+        self.assertFalse(reached & {"libc", "io", "os"})
+
+
 class TheChecks(unittest.TestCase):
     """The checks above notice what they are there for."""
 
