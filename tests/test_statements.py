@@ -1,9 +1,13 @@
 """docs/STATEMENTS.md names only what is there.
 
-Every file, edit and test that the page names exists, and every name that a
-row of a table gives stands, as a whole word, in a file that the row gives.
+The page's tables are read by their columns.  A name of a column such as
+"Said by" is declared in a file of its row: a function of the code, a type, a
+definition or a theorem.  A proof, an edit and a test that the page names
+exist.  A public call has no `requires`, and its contract uses the definitions
+that the page gives for it.
 """
 
+import glob
 import os
 import re
 import unittest
@@ -11,17 +15,78 @@ import unittest
 ROOT = os.path.dirname(os.path.dirname(os.path.abspath(__file__)))
 PAGE = os.path.join(ROOT, "docs", "STATEMENTS.md")
 
+# Columns of names that are declared in the files of the row's column "File".
+DECLARED = ("Said by", "Function or type", "Call")
+
+# The column of the public calls' contracts: names that the contract uses.
+CONTRACT = "Contract"
+
 # A name of the proofs may hold letters, digits, dashes, dots in the middle
 # and primes; a word ends where none of these goes on.
 LETTER = r"[\w'′·-]"
 
+# What stands before a name where it is declared: in the code, in the tests, in
+# the proofs.
+IN_CODE = r"(?:\bfn|\benum|\bstruct|\bconst)\s+{name}\b"
+VARIANT = r"^    {name}(?:,| \{{)"
+IN_TESTS = r"^(?:class|def)\s+{name}\b"
+IN_PROOFS = r"^\s*(?:(?:unfoldable|abbrev|pub|record|data)\s+)*{name}\s+[:({{]"
+
+
+class Row:
+    """A row of a table: its line number and, by column, its text and what stands there in backticks."""
+
+    def __init__(self, number, head, cells):
+        self.number = number
+        self.cells = dict(zip(head, cells))
+
+    def text(self, column):
+        return self.cells.get(column, "")
+
+    def tokens(self, *columns):
+        return [token for column in columns
+                for token in re.findall(r"`([^`]+)`", self.text(column))]
+
+    def all_tokens(self):
+        return self.tokens(*self.cells)
+
+    def names(self):
+        return self.tokens(*DECLARED)
+
 
 def rows():
-    """The rows of the page's tables: line number and what stands in backticks."""
+    """The rows of all tables of the page."""
+    head = None
     with open(PAGE, encoding="utf-8") as page:
         for number, line in enumerate(page, 1):
-            if line.startswith("|") and not line.startswith("|---"):
-                yield number, re.findall(r"`([^`]+)`", line)
+            if not line.startswith("|"):
+                head = None
+                continue
+            cells = [cell.strip() for cell in line.strip().strip("|").split("|")]
+            if head is None:
+                head = cells
+            elif not line.startswith("|---"):
+                yield Row(number, head, cells)
+
+
+def is_path(token):
+    return "/" in token and " " not in token
+
+
+def path_of(token):
+    """The file that the page means by a path: see "How to read the tables"."""
+    if token.startswith(("tests/", "examples/", "docs/", "bench/")):
+        return token
+    path = os.path.join("crates", token)
+    if re.fullmatch(r"\w+/proofs/\w+", token):
+        return os.path.join(path, "Proof.antt")
+    if re.fullmatch(r"\w+/must-fail/\w+", token):
+        return path + ".edit"
+    return path
+
+
+def exists(path):
+    return os.path.exists(os.path.join(ROOT, path))
 
 
 def text_of(path):
@@ -33,39 +98,187 @@ def stands_in(name, text):
     return re.search(rf"(?<!{LETTER}){re.escape(name)}(?!{LETTER})", text) is not None
 
 
+def declares(path, name):
+    """Whether a file declares a name: as a function, a type, a definition or a theorem."""
+    forms = {".antt": (IN_PROOFS,), ".rt": (IN_CODE, VARIANT),
+             ".py": (IN_TESTS,)}[os.path.splitext(path)[1]]
+    text = text_of(path)
+    return any(re.search(form.format(name=re.escape(name)), text, re.MULTILINE)
+               for form in forms)
+
+
+def contract_of(path, call):
+    """The head of a public function, from its name to its body."""
+    found = re.search(rf"^pub (?:extern \"C\" )?fn {call}\(.*?^\{{", text_of(path),
+                      re.MULTILINE | re.DOTALL)
+    return found and found.group(0)
+
+
+def tests_there():
+    return {name for path in glob.glob(os.path.join(ROOT, "tests", "test_*.py"))
+            for name in re.findall(r"^    def (test_\w+)\(", text_of(path), re.MULTILINE)}
+
+
 class Statements(unittest.TestCase):
+
     def test_the_page_has_its_tables(self):
-        named = [tokens for _, tokens in rows() if tokens]
-        self.assertGreater(len(named), 60)
+        said = [row for row in rows() if row.tokens("Said by")]
+        self.assertGreater(len(said), 100)
 
-    def test_every_file_exists(self):
-        for number, tokens in rows():
-            for path in (t for t in tokens if "/" in t):
-                with self.subTest(line=number, path=path):
-                    self.assertTrue(os.path.exists(os.path.join(ROOT, path)))
+    def test_every_row_is_whole(self):
+        for row in rows():
+            if "Said by" not in row.cells:
+                continue
+            for column in row.cells:
+                with self.subTest(line=row.number, column=column):
+                    self.assertTrue(row.text(column))
 
-    def test_every_name_stands_in_a_file_of_its_row(self):
-        tests = text_of("tests/test_replay.py")
-        for number, tokens in rows():
-            paths = [t for t in tokens if "/" in t and not t.endswith(".edit")]
-            texts = [text_of(p) for p in paths if os.path.exists(os.path.join(ROOT, p))]
-            for name in (t for t in tokens if "/" not in t):
-                with self.subTest(line=number, name=name):
-                    self.assertTrue(any(stands_in(name, t) for t in texts + [tests]))
+    def test_every_path_is_there(self):
+        for row in rows():
+            for token in filter(is_path, row.all_tokens()):
+                with self.subTest(line=row.number, path=token):
+                    self.assertTrue(exists(path_of(token)))
+
+    def test_every_name_is_declared_in_a_file_of_its_row(self):
+        for row in rows():
+            files = [path_of(token) for token in row.tokens("File")]
+            for name in row.names():
+                with self.subTest(line=row.number, name=name):
+                    self.assertTrue(any(declares(path, name) for path in files))
+
+    def test_every_file_of_a_row_declares_a_name_of_it(self):
+        for row in rows():
+            for path in map(path_of, row.tokens("File")):
+                with self.subTest(line=row.number, path=path):
+                    names = row.names()
+                    self.assertTrue(any(declares(path, name) for name in names))
+
+    def test_every_proof_is_one_of_a_function_or_of_a_named_theorem(self):
+        for row in rows():
+            said = row.names()
+            for token in filter(is_path, row.tokens("Proved in")):
+                with self.subTest(line=row.number, proof=token):
+                    if token.endswith("/stdout"):
+                        continue
+                    crate, kind, name = token.split("/")
+                    self.assertIn(kind, ("proofs", "specs"))
+                    if kind == "proofs":
+                        sources = glob.glob(os.path.join(ROOT, "crates", crate, "src", "*.rt"))
+                        self.assertTrue(any(declares(path, name) for path in sources))
+                    elif token in row.tokens("File"):
+                        self.assertTrue(any(declares(path_of(token), n) for n in said))
+
+    def test_every_test_is_there(self):
+        there = tests_there()
+        for row in rows():
+            for name in row.all_tokens():
+                if name.startswith("test_"):
+                    with self.subTest(line=row.number, test=name):
+                        self.assertIn(name, there)
+
+    def test_every_law_beside_a_path_is_declared_there(self):
+        # Such as: `counts-decided` in `bridge/specs/Decided.antt`.
+        found = re.findall(r"`([^` /]+)` in\s+`([^`]+/[^`]+)`", text_of("docs/STATEMENTS.md"))
+        self.assertGreater(len(found), 10)
+        for name, token in found:
+            with self.subTest(name=name, path=token):
+                path = token if token.startswith("crates/") else path_of(token)
+                self.assertTrue(declares(path, name))
 
     def test_every_must_fail_edit_of_the_page_still_fits_its_file(self):
-        for number, tokens in rows():
-            for path in (t for t in tokens if t.endswith(".edit")):
-                with self.subTest(line=number, edit=path):
-                    lines = text_of(path).split("\n")
+        for row in rows():
+            for token in (t for t in row.all_tokens() if "/must-fail/" in t):
+                with self.subTest(line=row.number, edit=token):
+                    lines = text_of(path_of(token)).split("\n")
                     edit = dict(l.split(": ", 1) for l in lines if ": " in l)
-                    crate = os.path.dirname(os.path.dirname(path))
+                    crate = os.path.join("crates", token.split("/")[0])
                     source = text_of(os.path.join(crate, edit["file"]))
                     self.assertIn(edit["old"].strip(), source)
+
+
+class PublicCalls(unittest.TestCase):
+
+    def calls(self):
+        found = [row for row in rows() if row.tokens("Call")]
+        self.assertEqual(len(found), 10)
+        for row in found:
+            call, = row.tokens("Call")
+            path, = map(path_of, row.tokens("File"))
+            yield row, path, call
+
+    def test_every_contract_uses_what_the_page_says(self):
+        for row, path, call in self.calls():
+            with self.subTest(call=call):
+                contract = contract_of(path, call)
+                self.assertIsNotNone(contract, "no public function of that name")
+                self.assertIn("ensures", contract)
+                for name in row.tokens(CONTRACT):
+                    self.assertTrue(stands_in(name, contract), name)
+
+    def test_no_public_call_asks_anything(self):
+        for _, path, call in self.calls():
+            with self.subTest(call=call):
+                self.assertFalse(stands_in("requires", contract_of(path, call) or ""))
+
+    def test_every_function_for_c_is_on_the_page(self):
+        named = {call for _, _, call in self.calls()}
+        there = re.findall(r'^pub extern "C" fn (\w+)\(', text_of("crates/abi/src/lib.rt"),
+                           re.MULTILINE)
+        self.assertEqual(len(there), 5)
+        self.assertLessEqual(set(there), named)
+
+
+class Assumed(unittest.TestCase):
+    """What a program assumes, by the check that built it."""
+
+    def test_every_program_assumes_what_the_page_says(self):
+        programs = [os.path.basename(os.path.dirname(os.path.dirname(path)))
+                    for path in glob.glob(os.path.join(ROOT, "crates", "*", "src", "main.rt"))]
+        said = {row.text("Program").strip("`"): row.text("`axioms=`")
+                for row in rows() if row.text("Program")}
+        self.assertEqual(set(said), set(programs))
+        for name, count in said.items():
+            with self.subTest(program=name):
+                check = text_of(os.path.join("target", "log", name + ".say"))
+                found = re.search(r"^logic=proved .*?axioms=(\d+)", check, re.MULTILINE)
+                self.assertEqual(found and found.group(1), count)
+
+    def test_no_public_call_reaches_a_c_function(self):
+        needs = {}
+        for line in text_of("crates.txt").splitlines():
+            name, colon, others = line.partition("#")[0].partition(":")
+            if colon:
+                needs[name.strip()] = others.split()
+        reached, left = set(), ["abi"]
+        while left:
+            name = left.pop()
+            reached.add(name)
+            left += [other for other in needs.get(name, []) if other not in reached]
+        self.assertLessEqual({"counts", "engine", "reader", "writer"}, reached)
+        self.assertFalse(reached & {"libc", "io", "os"})
+
+
+class TheChecks(unittest.TestCase):
+    """The checks above notice what they are there for."""
 
     def test_a_name_that_is_gone_would_be_noticed(self):
         self.assertFalse(stands_in("count", "counts recount count-x count'"))
         self.assertTrue(stands_in("count", "the count is"))
+
+    def test_a_name_that_is_only_used_is_not_declared(self):
+        counts = "crates/rules/specs/Counts.antt"
+        self.assertTrue(declares(counts, "freeCount"))
+        self.assertFalse(declares(counts, "taskCount"))
+        self.assertTrue(declares("crates/counts/src/lib.rt", "counts"))
+        self.assertFalse(declares("crates/counts/src/lib.rt", "countsRoom"))
+        self.assertTrue(declares("crates/rules/src/lib.rt", "Demoted"))
+        self.assertFalse(declares("crates/theory/specs/Demand3.antt", "free-slot"))
+
+    def test_a_contract_ends_where_the_body_starts(self):
+        contract = contract_of("crates/counts/src/lib.rt", "counts")
+        self.assertIn("countsRoom", contract)
+        self.assertNotIn("put_counts", contract)
+        self.assertIsNone(contract_of("crates/counts/src/lib.rt", "put_counts"))
 
 
 if __name__ == "__main__":

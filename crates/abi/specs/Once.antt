@@ -1,4 +1,5 @@
--- What `Told` decides: 0 is returned for a result alone, and for each answer there is only one telling.
+-- What `Told` decides: 0 is returned for a result alone, the lent values are kept as a lent room is, and for each answer there is only one
+-- telling (document 01, "How tight the statements are"). Nothing cites these laws: they are for the reader of Told.
 use Prim.Native.Nat.{ℕ}
 use mathlib.Core.Path.{_≡_, refl, sym, _∙_}
 use mathlib.Core.List.{List}

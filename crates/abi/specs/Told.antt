@@ -1,5 +1,5 @@
--- How an answer of document 01 is told to a program in C or Rust: a number is returned, and the rest goes through lent memory.
--- A call's contract says `Told` of its answer, and of each lent room what it holds at exit.
+-- How an answer of document 01 (rules, Answers) is told to a program in C or Rust: a number is returned, and the rest goes through lent
+-- memory. A call's contract says `Told` of its answer, and of each lent room what it holds at exit.
 use Prim.Native.Nat.{ℕ}
 use mathlib.Core.Path.{_≡_}
 use mathlib.Core.List.{List}

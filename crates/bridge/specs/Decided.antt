@@ -1,4 +1,5 @@
--- Only one answer fits: two answers and two rooms that both meet the contract of a public call are the same.
+-- Only one answer fits (document 01, "How tight the statements are"): two answers and two rooms that both meet the contract of a public
+-- call are the same. One law for each of the five calls; there is no exception.
 use mathlib.Core.Path.{_≡_, sym, _∙_}
 use mathlib.Core.List.{List}
 use Prim.Native.Nat.{ℕ}

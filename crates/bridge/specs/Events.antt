@@ -1,5 +1,5 @@
--- What one slot writes: the record of a task's job changes only where the job finishes or is demoted in the slot, or is to be removed
--- as missed right after it.
+-- What one slot writes: the record of a task's job (`recordBy` of rules, Replay) changes only where the job finishes or is demoted in the
+-- slot, or is to be removed as missed right after it; and what it is then. The proofs of the replay cite it: it writes nothing else.
 use mathlib.Core.Path.{_≡_, refl, ap, sym, _∙_}
 use mathlib.Core.Bool.{Bool, true, false, _&&_, _||_, false≢true, true≢false}
 use Prim.Native.Nat.{ℕ, suc, _-_, _<_}

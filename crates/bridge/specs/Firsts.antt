@@ -1,4 +1,5 @@
--- The first fault of many tests, as a loop or a row of tests finds it.
+-- The first fault of many tests, as a loop or a row of tests finds it: laws of `orNext` and `firstOf` (rules, Refusals).
+-- Cited by the proofs of the checks: on numbers (table), on lines (lines), and of the reader and the writer.
 use mathlib.Core.Path.{_≡_, refl, ap, sym, _∙_}
 use Prim.Native.Nat.{ℕ, zero, suc, _+_, _-_, _<_}
 use native.Mathlib.Numerals.{add-one}

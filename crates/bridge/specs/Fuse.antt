@@ -1,4 +1,5 @@
--- Two changes of a list by index made as one, and a change that is read at one index alone. Nothing of scheduling.
+-- Two changes of a list by index made as one, and a change that is read at one index alone: laws of `mapAt` (rules, Words).
+-- Nothing of scheduling. For code that makes several of the steps in one pass over the 32 records.
 use mathlib.Core.Path.{_≡_, refl, ap, sym, _∙_}
 use mathlib.Core.List.{List, [], _∷_}
 use Prim.Native.Nat.{ℕ, suc, _<_}

@@ -1,4 +1,5 @@
--- One slot for one job: what it finds, what it leaves, and how the job's finish and demotion so far go on.
+-- One slot for one job (steps 3 to 6 of rules, Slot): what it finds, what it leaves, and how the job's finish and demotion so far go on.
+-- `slot-stand` is the step law, from any job; Stands makes of it how the job of a release stands at each time.
 use mathlib.Core.Path.{_≡_, refl, ap, _∙_}
 use mathlib.Core.Bool.{Bool, true, false, _&&_, _||_, false≢true, true≢false}
 use mathlib.Core.Logic.{_⊎_, inl, inr}

@@ -1,4 +1,5 @@
--- What an accepted case gives: each test as a fact, and the order and separation of any two releases.
+-- What an accepted case gives (document 01, "Refusals by number"): from `caseFault`, which finds nothing, each test as a fact, and the
+-- order and separation of any two releases. `legal` is how every theorem about accepted cases, and the replay, comes by these facts.
 use mathlib.Core.Path.{_≡_, refl, ap, sym, _∙_}
 use mathlib.Core.Bool.{Bool, true, false, _&&_, _||_, false≢true}
 use mathlib.Core.Logic.{_⊎_, inl, inr}

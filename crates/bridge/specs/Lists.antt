@@ -1,4 +1,5 @@
--- Lists made or changed by index, and the first that passes. Nothing of scheduling.
+-- Lists made or changed by index, and choices: laws of `tab`, `mapAt` and `pick` (rules, Words). Nothing of scheduling.
+-- A run is a list of tasks, and the records are a list of numbers: most laws about either cite these.
 use mathlib.Core.Path.{_≡_, refl, ap, ap₂, _∙_}
 use mathlib.Core.Bool.{Bool, true, false}
 use mathlib.Core.Logic.{_⊎_, inl, inr}

@@ -1,4 +1,5 @@
--- The records as numbers in the lent room: a store of one record, and the stores of one slot.
+-- The records as numbers in the lent room (`numbers` of rules, Replay): a store of one record, the stores of one slot, which bring the
+-- room from time t to t + 1, and the totals read off it. Cited by the proofs of the replay, and by Returned in the crate theory.
 use mathlib.Core.Path.{_≡_, refl, ap, sym, _∙_}
 use mathlib.Core.Bool.{Bool, true, false}
 use mathlib.Core.List.{List, [], _∷_, _++_}

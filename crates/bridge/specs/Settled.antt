@@ -1,4 +1,5 @@
--- How a call settles: a refusal with number and place that leaves its room, or its results; and that only one answer fits.
+-- How a call settles: laws of `settled` and `kept` (rules, Answers). A refusal gives number and place and leaves its room; and an answer
+-- in document 01's numbers is that of one case of its enum alone. For Decided and the proofs of the calls on numbers.
 use mathlib.Core.Path.{_≡_, refl, ap, sym, _∙_}
 use mathlib.Core.Bool.{Bool, true, false}
 use mathlib.Core.List.{List}

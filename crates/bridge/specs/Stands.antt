@@ -1,4 +1,6 @@
--- The bridge from records to states: how the job of a release stands at each time up to its deadline.
+-- The bridge from records to states: how the job of a release stands at each time up to its deadline, there and unfinished or finished
+-- and gone, by the finish and the demotion of its record (rules, Replay). The replay and the theorems both rest on it.
+-- Also `state-split`: going l + k slots is going l, then k.
 use mathlib.Core.Path.{_≡_, refl, ap, _∙_}
 use mathlib.Core.Bool.{true, false, _&&_}
 use mathlib.Core.Logic.{inl, inr}

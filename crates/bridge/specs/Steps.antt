@@ -1,4 +1,5 @@
--- What each step does to the job of one task.
+-- What each step of a slot does to the job of one task: the definitions of rules, Slot, which speak of the whole run, read at one index,
+-- and that a run keeps its 32 tasks. Cited wherever one job is followed: by Jobs and Stands here, by the crates slot and theory.
 use mathlib.Core.Path.{_≡_, refl, ap, ap₂, _∙_}
 use mathlib.Core.Bool.{Bool, true, false, _&&_}
 use Prim.Native.Nat.{ℕ, _-_, _<_}

@@ -1,4 +1,5 @@
--- Sums over a window of numbers, and counting in it. Nothing of scheduling.
+-- Sums over a window of numbers, and counting in it: laws of `sum` and `countIn` (rules, Words). Nothing of scheduling.
+-- Cited wherever jobs or slots are counted: by the records in the lent room and, in the crate theory, by part 1 of demand 3.
 use mathlib.Core.Path.{_≡_, refl, ap, sym}
 use mathlib.Core.Bool.{Bool, true, false}
 use Prim.Native.Nat.{ℕ, zero, suc, _+_, _*_, _≤_, _<_}

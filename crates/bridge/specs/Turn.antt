@@ -1,4 +1,5 @@
--- One slot for all releases of one task: at most the last one's record changes, and how.
+-- One slot for all releases of one task: at most the last one's record changes, and how. Laws of `recordBy` (rules, Replay) in the words
+-- of a replay that keeps, for each task, the place of its last release. Events and Notes make of them what the replay writes.
 use mathlib.Core.Path.{_≡_, refl, ap, sym, _∙_}
 use mathlib.Core.Bool.{Bool, true, false, true≢false}
 use mathlib.Core.Logic.{_⊎_, inl, inr}

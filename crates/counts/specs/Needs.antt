@@ -1,4 +1,5 @@
--- What the counts say to the replay, beside the rules.
+-- What the counts say to the replay, beside the rules: that an array holds the free counts (rules, Counts) of a table that stands.
+-- The contract of `free_counts` says it, and the replay and the running set rest on it.
 use Prim.Native.Nat.{ℕ, _<_}
 use mathlib.Core.Path.{_≡_}
 use mathlib.Core.List.{List}

@@ -1,5 +1,5 @@
--- What the reader keeps of a case while it reads the lines: the case itself, but of its tasks and releases no more than decides what is
--- at fault. One task and one release more than may stand are enough for that.
+-- What the reader keeps of a case while it reads the lines (rules, Reader): the case itself, but of its tasks and releases no more than
+-- decides what is at fault. One task and one release more than may stand are enough for that. The contract of `gather` says it all.
 use Prim.Native.Nat.{ℕ, _%_, _≤_}
 use mathlib.Core.Path.{_≡_}
 use mathlib.Core.Bool.{not}

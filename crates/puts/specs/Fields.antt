@@ -1,4 +1,5 @@
--- The parts that lines are made of: fields with their parting byte in front, and the words that a number chooses.
+-- The parts that lines are made of: fields with their parting byte in front, and the words that a number chooses (document 01, "The case
+-- text", and "Which form each place takes" for the choice by number). Lines of the case text and printed lines are both made of them.
 use Prim.Native.Nat.{ℕ}
 use mathlib.Core.List.{List, [], _∷_, _++_, map}
 use lib.Dec.{eqb}

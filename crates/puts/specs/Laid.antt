@@ -1,5 +1,5 @@
 -- What every writer of this crate and of those above it promises: a text stands in the lent bytes from an index on, and all else is as
--- it was.
+-- it was. So texts may be put one behind the other ("each line goes into the unused end of the output").
 use Prim.Native.Nat.{ℕ, _+_}
 use mathlib.Core.Path.{_≡_}
 use mathlib.Core.List.{List}

@@ -1,4 +1,5 @@
--- The tests that the reader makes before it reads a line: its two rooms, then the length of the text.
+-- The tests that the reader makes before it reads a line: its two rooms, then the length of the text (document 01, "Refusals by number":
+-- it tests its room first, then 1). They are the first entries of `readFault` (rules, Reader), for the contract of `start_fault`.
 use Prim.Native.Nat.{ℕ, _*_}
 use mathlib.Core.List.{[], _∷_}
 use lib.Dec.{leb}

@@ -1,5 +1,5 @@
--- The printed lines by the numbers that stand in them, and the two lines beside document 01's own: the free count of a task and the
--- running set of a slot.
+-- The printed lines of rules, Report, by the numbers that stand in them, as their writers get them; and the two lines beside document 01's
+-- own: the free count of a task and the running set of a slot.
 use Prim.Native.Nat.{ℕ, zero, suc, _/_, _%_, _≤_}
 use mathlib.Core.List.{List, [], _∷_, _++_, map}
 use lib.Dec.{eqb}

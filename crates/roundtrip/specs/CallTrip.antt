@@ -1,5 +1,5 @@
--- The round trip in the words of the public calls: what the reader answers to what the writer wrote, and what the writer writes of what
--- the reader read. Neither asks for more than that the first call gave a result and that the second has room.
+-- The round trip (document 01, "The case text") in the words of the public calls: what the reader answers to what the writer wrote, and
+-- what the writer writes of what the reader read. Asked is only that the first call gave a result and that the second has room.
 use mathlib.Core.Path.{_≡_, refl, sym, ap, ap₂, _∙_, subst}
 use mathlib.Core.Bool.{Bool, true, false, false≢true}
 use mathlib.Core.List.{List, [], _∷_, _++_}

@@ -1,5 +1,5 @@
--- The lines of a case: they are what the writer writes, they hold the case, and of an accepted case they are in order, read as they are
--- written and fit into 60,000 bytes.
+-- The lines of a case: they are what the writer writes (`caseText`), they hold the case (`withLines`), and of an accepted case they are in
+-- order, read as they are written and fit into 60,000 bytes. RoundTrip puts these together; the program cites the last.
 use mathlib.Core.Path.{_≡_, refl, sym, ap, ap₂, _∙_}
 use mathlib.Core.Bool.{true, _&&_}
 use mathlib.Core.List.{List, [], _∷_, _++_}

@@ -1,5 +1,5 @@
--- Numbers and their digits: what is written of a number reads as that number, and what reads as a number is what is written of it.
--- Also how many digits there are, and that a field of digits is well formed.
+-- Numbers and their digits (`numberIn`, `digitsOf` of rules, Text): what is written of a number reads as that number, and what reads as a
+-- number is what is written of it. Also how many digits there are, and that a field of digits is well formed. For Fields and LineTrip.
 use mathlib.Core.Path.{_≡_, refl, sym, ap, ap₂, _∙_}
 use mathlib.Core.Bool.{true, _&&_}
 use mathlib.Core.Logic.{_⊎_, inl, inr}

@@ -1,5 +1,5 @@
--- Texts cut at a byte: what stands before the first of it and past it, and that the two and the byte make up the text.
--- A line is its fields parted by single tabs, with a newline behind.
+-- Texts cut at a byte (`upTo`, `past`, `has` of rules, Text): what stands before the first of it and past it, and that the two and the
+-- byte make up the text. A line is its fields parted by single tabs, with a newline behind. For LinesOf, LineTrip and Lines.
 use mathlib.Core.Path.{_≡_, refl, sym, ap, ap₂, _∙_}
 use mathlib.Core.Bool.{Bool, true, false, true≢false, false≢true}
 use mathlib.Core.List.{List, [], _∷_, _++_, append-assoc}

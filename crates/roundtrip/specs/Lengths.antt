@@ -1,4 +1,5 @@
--- How long what is written can be: a line whose numbers are below a million has at most 26 bytes.
+-- How long what is written can be: a line whose numbers are below a million has at most 26 bytes. So the text of every accepted case fits
+-- into 60,000 bytes (document 01, "The model"), which CaseLines says and reading it back needs.
 use mathlib.Core.List.{List, [], _∷_}
 use Prim.Native.Nat.{ℕ, _+_, _*_, _^_, _≤_, _<_}
 use native.Mathlib.Omega.{arith}

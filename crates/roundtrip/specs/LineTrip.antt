@@ -1,5 +1,5 @@
--- One line: what the writer writes of what a line says reads as that again, and a line that is not badly formed is just the bytes
--- that the writer writes of what it says.
+-- One line (`lineSays` of rules, Reader, and the lines of rules, Writer): what the writer writes of what a line says reads as that again,
+-- and a line that is not badly formed is just the bytes that the writer writes of what it says. Lines takes this to whole texts.
 use mathlib.Core.Path.{_≡_, refl, sym, ap, _∙_}
 use mathlib.Core.Bool.{true}
 use mathlib.Core.List.{List, [], _∷_, _++_}

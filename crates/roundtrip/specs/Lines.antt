@@ -1,5 +1,5 @@
 -- All lines of a text: lines that are written and read are the same lines; lines that are read, none of them badly formed, and
--- written are the same text.
+-- written are the same text. LineTrip for a whole text; RoundTrip adds the case that the lines hold.
 use mathlib.Core.Path.{_≡_, refl, sym, ap, ap₂, _∙_}
 use mathlib.Core.Bool.{Bool, true, false}
 use mathlib.Core.List.{List, [], _∷_, _++_, append-assoc}

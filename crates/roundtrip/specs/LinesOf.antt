@@ -1,5 +1,5 @@
--- The lines of a text, one by one: a line and what is past it, and that it does not matter in how many steps lines are looked for.
--- Laws of the reader's definitions alone, for whoever goes through a text line by line.
+-- The lines of a text, one by one (`linesOf` of rules, Reader): a line and what is past it, and that it does not matter in how many steps
+-- lines are looked for. Laws of the reader's definitions alone, for whoever goes through a text line by line; Lines does.
 use mathlib.Core.Path.{_≡_, refl, ap, _∙_}
 use mathlib.Core.Bool.{true, false}
 use mathlib.Core.List.{List, [], _∷_, _++_}

@@ -1,5 +1,5 @@
 -- Task lines and release lines: the numbers that they list, one line after the other, and the lines that such numbers make.
--- Said once for both kinds, over how many numbers a line lists.
+-- Said once for both kinds, over how many numbers a line lists. For Orders and CaseLines.
 use mathlib.Core.Path.{_≡_, refl, sym, ap, ap₂, _∙_, subst}
 use mathlib.Core.Bool.{Bool, true, false}
 use mathlib.Core.List.{List, [], _∷_, _++_, append-assoc, append-nil}

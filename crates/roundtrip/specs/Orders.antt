@@ -1,5 +1,5 @@
--- The order of lines: lines without a fault are procs, perhaps a policy, one or more tasks, the end, and releases; and such lines have
--- no fault.
+-- The order of lines (`linesFault`, `mayFollow` of rules, Reader; document 01, "The case text"): lines without a fault are procs,
+-- perhaps a policy, one or more tasks, the end, and releases; and such lines have no fault. For CaseLines and RoundTrip.
 use mathlib.Core.Path.{_≡_, refl, sym, ap, _∙_, subst}
 use mathlib.Core.Bool.{Bool, true, false, _||_, not, or-false}
 use mathlib.Core.Logic.{_⊎_, inl, inr}

@@ -1,5 +1,5 @@
 -- The round trip of the case text (document 01, "The case text"): reading what the writer wrote gives the same case; writing what was
--- read gives the same text, but for the policy line where it was absent.
+-- read gives the same text, but for the policy line where it was absent. Over the definitions; CallTrip says it of the calls.
 use mathlib.Core.Path.{_≡_, sym, ap, _∙_}
 use mathlib.Core.Bool.{Bool, true}
 use mathlib.Core.Logic.{_⊎_, inl, inr}

@@ -1,4 +1,6 @@
--- What a public call answers, in document 01's own numbers; and, for each answer that is an enum, the number and values of each case.
+-- What a public call answers, in document 01's own numbers ("Refusals by number"): a refusal with number and place, or the results;
+-- and, for each answer that is an enum, the number and values of each of its cases ("Which form each place takes"). Every contract of a
+-- public call is an equation with these.
 use Prim.Native.Nat.{ℕ}
 use mathlib.Core.List.{List, [], _∷_}
 use lib.Dec.{eqb}

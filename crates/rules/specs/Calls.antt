@@ -1,4 +1,5 @@
--- The public calls on numbers: what each answers and what each lent slice holds at exit, for every input.
+-- The public calls on numbers (document 01, "The product"): what the counts, the replay and the running set answer, and what each lent
+-- slice holds at exit, for every input, refusals included. These are their contracts; the reader's and the writer's are in Reader, Writer.
 use Prim.Native.Nat.{ℕ, _*_}
 use mathlib.Core.List.{List, [], _∷_, _++_}
 use lib.ListN.{length, drop}

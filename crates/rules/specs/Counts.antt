@@ -1,4 +1,5 @@
--- Contention-free counts (document 01, "Contention-free counts"; source document 001, equation 2).
+-- Contention-free counts (document 01, "Contention-free counts"; source document 001, equation 2): the availability of a task, the count
+-- for l slots, the free count of a task. Step 2 of a slot gives a job its free count from here, and the counts call writes them all.
 use Prim.Native.Nat.{ℕ, suc, _+_, _*_, _-_, _/_, _%_, min}
 use mathlib.Core.List.{List}
 use Rattle.rules.specs.Words.{sum, tab}

@@ -1,4 +1,5 @@
--- The numbers that document 01 fixes: how large a case may be, and how many numbers stand for a task, a release and a record.
+-- The numbers that document 01 fixes in "The model": how large a case may be, and how many numbers stand for a task and a release;
+-- and from "What happens at time t", how many stand for a record. Each has one name, and no other file of rules writes the number again.
 use Prim.Native.Nat.{ℕ}
 
 -- processors 1 to 32

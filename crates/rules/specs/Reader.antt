@@ -1,4 +1,5 @@
--- The reader (document 01, "The case text"): what each line says, the order of lines, the case of a text, the reader's whole answer.
+-- The reader (document 01, "The case text"): what each line says, the order of lines, the case of a text; and from "Refusals by number"
+-- the refusals 1 to 3, their order, and the reader's whole answer with what its two lent rooms hold at exit.
 use Prim.Native.Nat.{ℕ, zero, suc, _*_}
 use mathlib.Core.List.{List, [], _∷_, _++_}
 use mathlib.Core.Bool.{Bool, true, false, _&&_, _||_, not}

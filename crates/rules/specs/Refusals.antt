@@ -1,5 +1,5 @@
 -- The refusals on numbers (document 01, "Refusals by number"): each a test with its number and place, and for each public call the
--- list of tests that it makes, of which the first that fails is the answer.
+-- list of tests that it makes, of which the first that fails is the answer. The refusals of a text, 1 to 3, are in Reader.
 use Prim.Native.Nat.{ℕ, zero, suc, _+_, _*_, _-_, _%_}
 use mathlib.Core.Path.{_≡_}
 use mathlib.Core.Bool.{Bool, true, false, _&&_, _||_}

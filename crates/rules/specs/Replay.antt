@@ -1,5 +1,5 @@
--- The replay (document 01, "What happens at time t"): the state at each time, the sets of each slot, the record of each release, the
--- totals, the running set of a slot.
+-- The replay (document 01, "What happens at time t, in this order"): the state at each time, the sets of each slot, the record of each
+-- release, the totals, the running set of a slot. A record is read off the sets of the slots, at any time e; the answer is e = end.
 use Prim.Native.Nat.{ℕ, zero, suc, _+_, _*_, _-_, min}
 use mathlib.Core.Bool.{Bool, true, false, _&&_, _||_}
 use mathlib.Core.List.{List, [], _∷_}

@@ -1,4 +1,5 @@
--- One slot, from any state: what happens at time t, in document 01's six steps, under each policy.
+-- One slot, from any state: the six steps of document 01, "What happens at time t, in this order", under each policy, and the sets of
+-- tasks that run, finish, are removed as missed and are demoted in it; also jobs and states, from "The model".
 -- A slot takes the set of tasks released now and not the trace, so a log or a live run can go through the same steps.
 use Prim.Native.Nat.{ℕ, suc, _+_, _*_, _-_, _^_}
 use mathlib.Core.Bool.{Bool, true, false, _&&_, _||_}

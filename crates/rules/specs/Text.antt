@@ -1,4 +1,5 @@
--- Lines, fields and numbers of a case text (document 01, "The case text").
+-- Lines, fields and numbers of a case text (document 01, "The case text"): where a line and a field end, which bytes are a number and
+-- what it is worth, the digits of a number, the words. The reader, the writer and the printed lines are all made of these.
 use Prim.Native.Nat.{ℕ, zero, suc, _+_, _-_, _*_, _/_, _%_}
 use mathlib.Core.List.{List, [], _∷_, _++_}
 use mathlib.Core.Bool.{Bool, true, false, _&&_, not}

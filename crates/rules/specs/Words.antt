@@ -1,4 +1,5 @@
 -- The words that the rules are written in: a choice, a sum, a count, the first of many, a list by index. Nothing of scheduling.
+-- Document 01 fixes none of them: they are what its sentences are put into. Read them before the other files of rules.
 use Prim.Native.Nat.{ℕ, zero, suc, _+_}
 use mathlib.Core.Bool.{Bool, true, false}
 use mathlib.Core.List.{List, [], _∷_}

@@ -1,4 +1,5 @@
--- The writer (document 01, "The case text"): the bytes of a case, and the writer's whole answer.
+-- The writer (document 01, "The case text"): the bytes of each line and of a whole case, the policy line always among them; and the
+-- writer's whole answer, with what its lent bytes hold at exit ("Refusals by number": it needs room for the exact text length).
 use Prim.Native.Nat.{ℕ}
 use mathlib.Core.List.{List, [], _∷_, _++_}
 use lib.ListN.{length, drop}

@@ -1,4 +1,5 @@
--- What the checks on numbers ask of each other and say of a part of the row of tests, beside the rules.
+-- What the checks on numbers (rules, Refusals) ask of each other, and the parts of the row of tests that one function makes.
+-- These stand in contracts of inner functions alone; a public call asks nothing of its caller.
 use Prim.Native.Nat.{ℕ, suc, _≤_, _<_}
 use mathlib.Core.List.{List, [], _∷_}
 use Rattle.rules.specs.Words.{tab}

@@ -1,4 +1,5 @@
--- The replay of an accepted case is a lawful course, and what its records say is what the course's slots say.
+-- The replay of an accepted case is a lawful course, and what its records say is what the course's slots say: so what Enough and Demoted
+-- prove of courses holds of the replay (rules, Replay). For Demand3 and Endings.
 use mathlib.Core.Path.{_≡_, refl, ap, sym, _∙_}
 use mathlib.Core.Bool.{Bool, true, false, _&&_, _||_, false≢true}
 use mathlib.Core.List.{List}

@@ -1,4 +1,5 @@
--- Tests over a window of numbers: how their counts compare, and the first that holds. Nothing of scheduling.
+-- Tests over a window of numbers: how their counts compare, and the first that holds: laws of `countIn` and `firstIn` (rules, Words).
+-- Nothing of scheduling. Every theorem here that counts slots or jobs cites them.
 use mathlib.Core.Path.{_≡_, refl, ap, sym, _∙_}
 use mathlib.Core.Bool.{Bool, true, false, _&&_, and-false, false≢true}
 use Prim.Native.Nat.{ℕ, zero, suc, _+_, _*_, _-_, min, _≤_, _<_}

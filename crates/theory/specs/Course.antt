@@ -1,5 +1,5 @@
--- A course: slots in which some set of tasks is worked, chosen by anyone. The replay is the course whose sets are those of step 5; a
--- log of another scheduler is one too. Document 01's steps 1 to 4 are taken as they are, so the states are not a second model.
+-- A course: slots in which some set of tasks is worked, chosen by anyone. The replay is the course whose sets are those of step 5; a log
+-- of another scheduler is one too. Document 01's steps 1 to 4 (rules, Slot) are taken as they are, so the states are not a second model.
 use mathlib.Core.Path.{_≡_, refl, ap, sym, _∙_}
 use mathlib.Core.Bool.{Bool, true, false, _&&_, _||_}
 use Prim.Native.Nat.{ℕ, zero, suc, _+_, _≤_, _<_}

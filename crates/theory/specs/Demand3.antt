@@ -1,5 +1,5 @@
--- Demand 3, proved of the definitions: what document 01's steps promise of every accepted case and of every job whose deadline is not
--- after the end. The statements are about the slots and records of the replay itself; parts 1 and 2 stand first for any course.
+-- Demand 3, proved of the definitions of rules: what document 01's steps promise of every accepted case and of every job whose deadline is
+-- not after the end. The statements are about the slots and records of the replay itself; parts 1 and 2 stand first for any course.
 use mathlib.Core.Path.{_≡_, refl, ap, sym, _∙_}
 use mathlib.Core.Bool.{Bool, true, false≢true, true≢false}
 use mathlib.Core.Logic.{inl, inr}

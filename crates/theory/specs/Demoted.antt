@@ -1,5 +1,5 @@
 -- Part 2 of demand 3 for a course: how the job of a release stands from slot to slot, and that once demoted it finishes by its deadline
--- where its free count is no more than the contention-free slots up to there.
+-- where its free count is no more than the contention-free slots up to there. Demand3 takes that from part 1.
 use mathlib.Core.Path.{_≡_, refl, ap, _∙_}
 use mathlib.Core.Bool.{Bool, true, false, _&&_}
 use mathlib.Core.Logic.{inl, inr}

@@ -1,4 +1,5 @@
--- Demand 3, part 3, the step law: each job that is normal under EDF-CF is there under EDF, with at least as much left.
+-- Part 3 of demand 3, the step law: each job that is normal under EDF-CF is there under EDF, with at least as much left, from slot to slot
+-- of the two replays of one case (rules, Replay). Demand3 draws from it that what EDF meets EDF-CF meets.
 use mathlib.Core.Path.{_≡_, refl, ap, _∙_}
 use mathlib.Core.Bool.{Bool, true, false, false≢true, true≢false}
 use Prim.Native.Nat.{ℕ, zero, suc, _-_, _≤_, _<_}

@@ -1,4 +1,5 @@
--- How the job of a release ends, by the states: finished, removed by step 1 at its deadline, or left when step 1 of the end is done.
+-- How the job of a release ends, by the states: finished, removed by step 1 at its deadline, or left when step 1 of the end is done
+-- (`closing` of rules, Replay). Laws states what follows for the verdicts missed and open.
 use mathlib.Core.Path.{_≡_, refl, ap, sym, _∙_}
 use mathlib.Core.Bool.{Bool, true, false, _&&_, false≢true}
 use mathlib.Core.Logic.{inl, inr}

@@ -1,4 +1,5 @@
--- Part 1 of demand 3, for any course: a window of l slots has at least `count` contention-free ones, whatever is worked in them.
+-- Part 1 of demand 3, for any course: a window of l slots has at least `count` (rules, Counts) contention-free ones, whatever is worked in
+-- them. This is source document 001, Lemma 2; Demand3 says it of courses and of the replay.
 use mathlib.Core.Path.{_≡_, refl, ap, sym, _∙_}
 use mathlib.Core.Bool.{Bool, true, false, false≢true, true≢false}
 use mathlib.Core.Logic.{_⊎_, inl, inr}

@@ -1,4 +1,5 @@
--- Demand 3 is not empty: computed cases in which its promises are kept with nothing to spare, and in which none is made.
+-- Demand 3 is not empty: computed cases in which its promises are kept with nothing to spare, and in which none is made. One of them,
+-- `demoted-later`, tells an error of document 01's "Errors that look right" that no entry of "Worked by hand" tells.
 use mathlib.Core.Path.{_≡_, refl, sym, _∙_}
 use mathlib.Core.Bool.{false, false≢true}
 use mathlib.Core.List.{[], _∷_}

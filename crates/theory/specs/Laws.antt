@@ -1,5 +1,5 @@
--- Further laws of the definitions: how many run, the totals, where a finish lies, who runs before whom, what a record depends on, and
--- what missed and open mean for the states.
+-- Further laws of the definitions of rules, Slot and Replay (document 01, "What happens at time t, in this order"): how many run, the
+-- totals, where a finish lies, who runs before whom, what a record depends on, and what missed and open mean for the states.
 use mathlib.Core.Path.{_≡_, ap, _∙_}
 use mathlib.Core.Bool.{true, false}
 use mathlib.Core.Logic.{_↔_}

@@ -1,5 +1,5 @@
--- What is released from a time on changes nothing before it: two traces with the same sets released before e have the same states up to
--- e, and the same records of the jobs whose deadline is not after e.
+-- What is released from a time on changes nothing before it: two traces with the same sets released before e have the same states up to e,
+-- and the same records (rules, Replay) of the jobs whose deadline is not after e. For `later-releases` in Laws.
 use mathlib.Core.Path.{_≡_, refl, ap, ap₂, sym, _∙_, fun-ext}
 use mathlib.Core.List.{List}
 use Prim.Native.Nat.{ℕ, zero, suc, _+_, _-_, min, _≤_, _<_}

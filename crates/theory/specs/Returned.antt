@@ -1,4 +1,5 @@
--- Demand 3 said of what the replay call returns: of the numbers in its room, for every answer that meets its contract.
+-- Demand 3 said of what the replay call returns: of the numbers in its room, for every answer that meets its contract (`Replays` of
+-- bridge, Decided). Verdict, finish and demotion are read from the room here, and not from the definition of a record.
 use mathlib.Core.Path.{_≡_, sym, _∙_}
 use mathlib.Core.List.{List, _++_}
 use Prim.Native.Nat.{ℕ, _+_, _*_, _≤_, _<_}

@@ -1,5 +1,6 @@
 -- Part 2 of demand 3 for one job and any count: whatever free count a job is given at its release, if that is no more than the
 -- contention-free slots up to its deadline and it is worked in each of them, then once demoted it finishes. The other jobs do not matter.
+-- Over steps 3 to 6 of rules, Slot; Demoted takes it to the states of a course.
 use mathlib.Core.Path.{_≡_, refl}
 use mathlib.Core.Bool.{Bool, true, false, false≢true}
 use Prim.Native.Nat.{ℕ, zero, suc, _+_, _-_, _≤_, _<_}

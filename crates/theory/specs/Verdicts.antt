@@ -1,4 +1,5 @@
--- Verdicts (document 01: met, finished; missed, unfinished at a deadline ≤ end; open, unfinished with a later one) and their totals.
+-- Verdicts (document 01, "What happens at time t, in this order": met, finished; missed, unfinished at a deadline ≤ end; open, unfinished
+-- with a later one) and their totals: laws of `verdictOf` and `marked` (rules, Replay). For Demand3, Endings and Laws.
 use mathlib.Core.Path.{_≡_, refl}
 use mathlib.Core.Bool.{Bool, true, false}
 use Prim.Native.Nat.{ℕ, zero, suc, _+_, _-_, _<_}

@@ -1,4 +1,6 @@
--- What the program prints for what is asked of a text, byte for byte, and what its writers ask of the numbers that they print.
+-- What the program prints for what is asked of a text, byte for byte (document 01, "The case text"; the words counts, slot and write are
+-- the project's own), and what its writers ask of the numbers that they print. The contract of `answer` says `textSays`.
+use mathlib.Core.Path.{_≡_, refl}
 use Prim.Native.Nat.{ℕ, _+_, _*_, _-_, _^_, _≤_, _<_}
 use mathlib.Core.List.{List, []}
 use lib.Dec.{eqb, ltb}
@@ -10,7 +12,7 @@ use Rattle.rules.specs.Answers.{Answer, refusal, result}
 use Rattle.rules.specs.Replay.{recordOf, runningSet}
 use Rattle.rules.specs.Reader.{textFault, caseIn}
 use Rattle.rules.specs.Writer.{joinedText, caseText}
-use Rattle.rules.specs.Report.{jobLine, refusedLine, report}
+use Rattle.rules.specs.Report.{jobLine, refusedLine, report, printed}
 use Rattle.puts.specs.Laid.{Laid}
 use Rattle.report.specs.Lines.{countLine, runningLine}
 use Rattle.thrumcomb.specs.declared.Wish.{Wish}
@@ -53,6 +55,11 @@ caseSays Write c = caseText c
 -- of a text: the refusal's line alone, or what its case says
 unfoldable pub textSays : Wish → List ℕ → List ℕ
 textSays w s = pick (eqb (textFault s .number) 0) (caseSays w (caseIn s)) (refusedLine (textFault s .number) (textFault s .place))
+
+-- with no word after its name the program prints what document 01 fixes
+pub replay-says : (s : List ℕ) → textSays Replay s ≡ printed s
+unfolding textSays caseSays printed
+replay-says s = refl
 
 -- ---- what the writers promise and ask
 -- the first n lines stand from index `at` on, none of them longer than w

@@ -1,4 +1,5 @@
--- The entries of document 01 that are marked P: one list, and one claim that antt computes.
+-- The entries of document 01, "Worked by hand", that are marked P: one list of what the definitions give and what the paper says, and one
+-- claim, `all-stand`, that antt computes. The entries that are not marked are run by the program try_worked.
 use mathlib.Core.Path.{_≡_, refl}
 use mathlib.Core.List.{List, [], _∷_, map}
 use Prim.Native.Nat.{ℕ}

@@ -1,5 +1,5 @@
--- The text of a case in three parts: the lines before the tasks, those of rows of lent numbers (three a task, two a release), and those
--- from the end line on.
+-- The text of a case (`caseText` of rules, Writer) in three parts: the lines before the tasks, those of rows of lent numbers (three a
+-- task, two a release), and those from the end line on. The contracts of the functions that write these parts name them.
 use Prim.Native.Nat.{ℕ, _*_, _≤_}
 use mathlib.Core.Path.{_≡_}
 use mathlib.Core.List.{List, _++_}

@@ -1,0 +1,69 @@
+"""The times of the gate by crate are those that `rt` printed."""
+
+import os
+import sys
+import tempfile
+import unittest
+
+ROOT = os.path.dirname(os.path.dirname(os.path.abspath(__file__)))
+sys.path.insert(0, os.path.join(ROOT, "bench"))
+
+import gate
+
+# Lines as `rt` prints them, one of each form, among others that have no time.
+PRINTED = """\
+crates/table/proofs/in_order/Proof.antt:33:6: note: large solution: 12 s) of it
+fn counts::smaller: proved
+logic=proved functions=6 sum=064da1ca440f63e7 native=nat,char,string
+rt: rules proved (unchanged since it was last proved)
+rt: counts proved (8 s)
+rt: drive proved (37 s)
+rt: reader NOT PROVED (exit 1, 12 s)
+rt: abi NOT PROVED: its dependency reader is not proved
+rt: must-fail counts/divides_by_m: refused, as it must be (first at proofs/count_of/Proof.antt:13:15; 9 s)
+rt: must-fail counts/leaves_out_a_task: refused, as it must be (10 s)
+rt: must-fail rules/none: NOT REFUSED: the crate is still proved with this edit (2 s)
+rt: must-fail counts/no_such_text: BAD EDIT: an 'old:' text is not in src/lib.rt
+rt: drive ran as nobody, and wrote what its file 'stdout' has (1 s)
+rt: show proved, and its run FAILED (3 s)
+rt: FAILED: reader abi rules/none counts/no_such_text show
+4 passed, 5 failed
+"""
+
+
+class Gate(unittest.TestCase):
+
+    def test_the_times_of_each_crate(self):
+        found = gate.by_crate(PRINTED.splitlines(keepends=True))
+        self.assertEqual({name: (times.proof, times.edits, times.edits_took, times.run)
+                          for name, times in found.items()},
+                         {"rules": (None, 1, 2, 0), "counts": (8, 2, 19, 0),
+                          "drive": (37, 0, 0, 1), "reader": (12, 0, 0, 0),
+                          "show": (None, 0, 0, 3)})
+
+    def test_the_sum_is_of_all(self):
+        *_, last = gate.table(gate.by_crate(PRINTED.splitlines()))
+        self.assertEqual(last.split(), "all 57 s 3 21 s 82 s".split())
+
+    def test_what_a_run_left(self):
+        with tempfile.TemporaryDirectory() as target:
+            for path, line in [
+                    ("log/table.out", "rt: table proved (22 s)"),
+                    ("log/table.say", "rt: table proved (99 s)"),
+                    ("must-fail/table/one.out", "rt: must-fail table/one: refused, as it must be (5 s)"),
+                    ("must-fail/table/two.out", "rt: must-fail table/two: refused, as it must be (6 s)")]:
+                path = os.path.join(target, path)
+                os.makedirs(os.path.dirname(path), exist_ok=True)
+                with open(path, "w") as file:
+                    file.write(line + "\n")
+            found = gate.by_crate(gate.left_in(target))
+        self.assertEqual(list(found), ["table"])
+        self.assertEqual((found["table"].proof, found["table"].edits, found["table"].whole()), (22, 2, 33))
+
+    def test_nothing_left(self):
+        with tempfile.TemporaryDirectory() as target:
+            self.assertEqual(gate.by_crate(gate.left_in(target)), {})
+
+
+if __name__ == "__main__":
+    unittest.main()
