@@ -95,10 +95,10 @@ has-none x (b ∷ s) h = hasnt-pick (eqb b x) b (upTo x s) s (has x s) (has-none
 part-from : (a : ℕ) (s : List ℕ) → take (length s - a) (drop a s) ≡ drop a s
 part-from a s = take-all (length s - a) (drop a s) (omega (arith, length-drop a s))
 
-pub rest-some : (x e : ℕ) (s : List ℕ) → e ≡ 0 + length (upTo x s) → e < length s → take (length s - (e + 1)) (drop (e + 1) s) ≡ past x s
+pub rest-some : (x e : ℕ) (s : List ℕ) → e ≡ length (upTo x s) → e < length s → take (length s - (e + 1)) (drop (e + 1) s) ≡ past x s
 rest-some x e s h l =
     let k : e + 1 ≡ suc (length (upTo x s)) = omega arith in
     part-from (e + 1) s ∙ ap (λ (n : ℕ). drop n s) k ∙ drop-past x s (omega arith)
 
-pub rest-none : (x e : ℕ) (s : List ℕ) → e ≡ 0 + length (upTo x s) → length s ≤ e → take (length s - e) (drop e s) ≡ past x s
+pub rest-none : (x e : ℕ) (s : List ℕ) → e ≡ length (upTo x s) → length s ≤ e → take (length s - e) (drop e s) ≡ past x s
 rest-none x e s h l = part-from e s ∙ drop-of-length-le s l ∙ sym (none-past x s (omega arith))

@@ -40,11 +40,11 @@ pub fn field(s: &[u8]) -> &[u8]
     &s[0..e]
 }
 
-// What follows the first tab of s; nothing where it has none.
-pub fn after_field(s: &[u8]) -> &[u8]
+// What follows the tab behind the first field of s, which has e bytes; nothing where there is no tab.
+pub fn after_field(s: &[u8], e: usize) -> &[u8]
+    requires { ⌜ e ≡ length (fieldOf (now s)) ⌝ }
     ensures { λ r. ⌜ now r ≡ afterField (now (s .entry)) ⌝ }
 {
-    let e = seek(s, 0, 9);
     if e < s.len() { &s[e + 1..] } else { &s[e..] }
 }
 
@@ -153,14 +153,16 @@ pub fn policy_fields(s: &[u8]) -> Line
 pub fn task_fields(s: &[u8]) -> Line
     ensures { λ r. ⌜ r ≡ threeNumbers (now (s .entry)) Row ⌝ }
 {
-    let Num::Value { value: period } = number(field(s)) else {
+    let first = field(s);
+    let Num::Value { value: period } = number(first) else {
         return Line::Bad;
     };
-    let t = after_field(s);
-    let Num::Value { value: execution } = number(field(t)) else {
+    let t = after_field(s, first.len());
+    let second = field(t);
+    let Num::Value { value: execution } = number(second) else {
         return Line::Bad;
     };
-    let Num::Value { value: deadline } = number(after_field(t)) else {
+    let Num::Value { value: deadline } = number(after_field(t, second.len())) else {
         return Line::Bad;
     };
     Line::Row {
@@ -184,10 +186,11 @@ pub fn end_fields(s: &[u8]) -> Line
 pub fn release_fields(s: &[u8]) -> Line
     ensures { λ r. ⌜ r ≡ twoNumbers (now (s .entry)) Release ⌝ }
 {
-    let Num::Value { value: time } = number(field(s)) else {
+    let first = field(s);
+    let Num::Value { value: time } = number(first) else {
         return Line::Bad;
     };
-    let Num::Value { value: task } = number(after_field(s)) else {
+    let Num::Value { value: task } = number(after_field(s, first.len())) else {
         return Line::Bad;
     };
     Line::Release { time, task }
@@ -211,8 +214,9 @@ pub fn fields_say(kind: u32, s: &[u8]) -> Line
 pub fn line_says(s: &[u8]) -> Line
     ensures { λ r. ⌜ r ≡ lineSays (now (s .entry)) ⌝ }
 {
-    let kind = word_kind(field(s));
-    fields_say(kind, after_field(s))
+    let word = field(s);
+    let kind = word_kind(word);
+    fields_say(kind, after_field(s, word.len()))
 }
 
 // Whether a line of that kind may follow one of kind `before`, which is 0 before the first line.

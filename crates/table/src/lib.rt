@@ -177,8 +177,8 @@ pub fn is_named(name: u32, n: usize) -> bool
     name as usize <= n
 }
 
-pub fn release_fault(table: &[u32], end: u32, trace: &[u32], j: usize, last: [u32; 32]) -> Fault
-    requires { ⌜ Sound (now table) × (j < releaseCount (now trace)) × (releaseCount (now trace) ≤ 2000) × (last ≡ lasts (now trace) j) × Early (now trace) j ⌝ }
+pub fn release_fault(table: &[u32], end: u32, trace: &[u32], j: usize, last: &[u32; 32]) -> Fault
+    requires { ⌜ Sound (now table) × (j < releaseCount (now trace)) × (releaseCount (now trace) ≤ 2000) × (now last ≡ lasts (now trace) j) × Early (now trace) j ⌝ }
     ensures { λ r. ⌜ r ≡ releaseFault (now (table .entry)) end (now (trace .entry)) j ⌝ }
 {
     let time = trace[j * 2];
@@ -214,7 +214,7 @@ pub fn releases_fault(table: &[u32], end: u32, trace: &[u32]) -> Fault
     let mut last: [u32; 32] = [0; 32];
     let mut j: usize = 0;
     while j < n {
-        let f = release_fault(table, end, trace, j, last);
+        let f = release_fault(table, end, trace, j, &last);
         let k = f.number;
         if k != 0 {
             return f;

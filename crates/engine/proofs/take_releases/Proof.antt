@@ -1,5 +1,7 @@
 -- `engine::take_releases` meets its contract.
 use Rattle.rules.specs.Words.{tab}
+use Rattle.rules.specs.Limits.{maxTasks}
+use Rattle.rules.specs.Case.{nameOf}
 use native.Mathlib.Omega.{arith}
 use mathlib.Core.Path.{refl}
 use Prim.Native.Nat.{_-_, _≤_}
@@ -13,6 +15,10 @@ Inv-loop trace from clock place₀ released₀ n k₀ place released k = (from �
 
 abbrev μ-loop : tie.MeasureT-loop
 μ-loop trace from clock place₀ released₀ n k₀ place released k = n - k
+
+-- the release at hand names one of 32 tasks
+named : (c : tie.Then1 Inv-loop μ-loop) → (1 ≤ nameOf (c .before .before .before .before .before .args .trace .now) (c .before .before .before .loop .k)) × (nameOf (c .before .before .before .before .before .args .trace .now) (c .before .before .before .loop .k) ≤ maxTasks)
+named c = c .before .before .before .before .before .pre .0 .named (c .before .before .before .loop .k) (omega arith)
 
 loop-holds : tie.Need-loop-holds Inv-loop μ-loop
 unfolding tab
@@ -40,29 +46,19 @@ shared-slice-read-i : tie.Need-shared-slice-read-i Inv-loop μ-loop
 shared-slice-read-i c = search needs
 
 cast-i : tie.Need-cast-i Inv-loop μ-loop
-cast-i c =
-    let k = c .before .before .before .before .loop .k in
-    omega (arith, c .before .before .before .before .before .before .pre .0 .named k (omega arith))
+cast-i c = omega (arith, named (c .before))
 
 sub-i : tie.Need-sub-i Inv-loop μ-loop
-sub-i c =
-    let k = c .before .before .before .before .loop .k in
-    omega (arith, c .before .before .before .before .before .before .pre .0 .named k (omega arith))
+sub-i c = omega (arith, named (c .before))
 
 element-write-released : tie.Need-element-write-released Inv-loop μ-loop
-element-write-released c =
-    let k = c .before .before .before .before .loop .k in
-    omega (arith, c .before .before .before .before .before .before .pre .0 .named k (omega arith))
+element-write-released c = omega (arith, named (c .before))
 
 mul-place : tie.Need-mul-place Inv-loop μ-loop
-mul-place c =
-    let k = c .before .before .before .before .loop .k in
-    omega (arith, c .before .before .before .before .before .before .pre .0 .named k (omega arith))
+mul-place c = omega (arith, named (c .before))
 
 element-write-place : tie.Need-element-write-place Inv-loop μ-loop
-element-write-place c =
-    let k = c .before .before .before .before .loop .k in
-    omega (arith, c .before .before .before .before .before .before .pre .0 .named k (omega arith))
+element-write-place c = omega (arith, named (c .before))
 
 add-k : tie.Need-add-k Inv-loop μ-loop
 add-k c = search needs

@@ -1,5 +1,6 @@
 -- `scan::line_says` meets its contract.
 use mathlib.Core.Path.{ap, ap₂, _∙_}
+use lib.ListN.{length}
 use Rattle.rules.specs.Reader.{wordKind, fieldsSay, lineSays}
 use borrow.Author.Needs.{needs}
 use Rattle.scan.proofs.line_says.Statement.{statement}
@@ -12,7 +13,7 @@ word-kind-requires : tie.Need-word-kind-requires
 word-kind-requires c κs = search needs
 
 after-field-requires : tie.Need-after-field-requires
-after-field-requires c κs = search needs
+after-field-requires c κs = ap length (c .before .field .ensures)
 
 fields-say-requires : tie.Need-fields-say-requires
 fields-say-requires c κs = search needs

@@ -1,5 +1,6 @@
 -- `scan::release_fields` meets its contract.
 use mathlib.Core.Path.{_≡_, sym, ap, _∙_}
+use lib.ListN.{length}
 use Rattle.rules.specs.declared.Num.the-variants.{Value}
 use Rattle.rules.specs.Text.{numberIn, fieldOf}
 use Rattle.rules.specs.Reader.{twoNumbers, oneNumber}
@@ -28,7 +29,7 @@ unfolding twoNumbers
 returns c = rw (ap numberIn (sym (c .before .before .before .field .ensures)) ∙ sym (c .before .before .number .ensures) ∙ c .enum-told .given .1)
 
 after-field-requires : tie.Need-after-field-requires
-after-field-requires c κs = search needs
+after-field-requires c κs = ap length (c .before .before .before .before .field .ensures)
 
 number-requires-2 : tie.Need-number-requires-2
 number-requires-2 c κs = search needs

@@ -2,6 +2,7 @@
 use mathlib.Core.Path.{_≡_, sym, ap, _∙_}
 use mathlib.Core.List.{List}
 use Prim.Native.Nat.{ℕ}
+use lib.ListN.{length}
 use Rattle.rules.specs.declared.Num.the-variants.{Value}
 use Rattle.rules.specs.Text.{numberIn, fieldOf, afterField}
 use Rattle.rules.specs.Reader.{threeNumbers, twoNumbers, oneNumber}
@@ -35,7 +36,7 @@ unfolding threeNumbers
 returns c = rw (ap numberIn (sym (c .before .before .before .field .ensures)) ∙ sym (c .before .before .number .ensures) ∙ c .enum-told .given .1)
 
 after-field-requires : tie.Need-after-field-requires
-after-field-requires c κs = search needs
+after-field-requires c κs = ap length (c .before .before .before .before .field .ensures)
 
 field-requires-2 : tie.Need-field-requires-2
 field-requires-2 c κs = search needs
@@ -54,7 +55,7 @@ unfolding threeNumbers twoNumbers oneNumber
 returns-2 c = rw (period-read (c .before .before .before .before .before .before), ap (λ (z : List ℕ). numberIn (fieldOf z)) (sym (c .before .before .before .before .after-field .ensures)) ∙ ap numberIn (sym (c .before .before .before .field2 .ensures)) ∙ sym (c .before .before .number2 .ensures) ∙ c .enum-told2 .given .1)
 
 after-field-requires-2 : tie.Need-after-field-requires-2
-after-field-requires-2 c κs = search needs
+after-field-requires-2 c κs = ap length (c .before .before .before .before .field2 .ensures)
 
 number-requires-3 : tie.Need-number-requires-3
 number-requires-3 c κs = search needs
