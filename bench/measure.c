@@ -133,8 +133,7 @@ static void measure_text(uint32_t repeat)
         wt += clock() - a;
     }
     if (number_t != 0) {
-        /* The plain C makes no checks on numbers, so there is no refusal of its own to compare. */
-        line("reader", rc, rt, "refused, not compared");
+        line("reader", rc, rt, compared(number_c == number_t && place_c == place_t));
         return;
     }
     same = number_c == 0 && results[0] == read_c.procs && results[1] == read_c.policy && results[2] == read_c.end

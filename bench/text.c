@@ -1,6 +1,6 @@
 /*
  * A plain reader and writer of the case text of document 01 in C, to measure Thrumcomb against: one pass over the text, the numbers
- * stored as they are read. It makes no checks on numbers (refusals 4 to 12), which Thrumcomb's reader does: it has less to do.
+ * stored as they are read, then the checks on numbers of replay.c. The writer makes no checks: it has less to do than Thrumcomb's.
  */
 
 #include "text.h"
@@ -57,7 +57,7 @@ static int numbers(const uint8_t *text, size_t *at, size_t end, int count, uint3
     return 1;
 }
 
-/* Reads a well-ordered text; gives 0, or 2 or 3 with the line. */
+/* Reads a text; gives 0, or the number of a refusal and its place. */
 int read_text(const uint8_t *text, size_t length, struct read_case *c, uint32_t *place)
 {
     size_t at = 0;
@@ -114,8 +114,7 @@ int read_text(const uint8_t *text, size_t length, struct read_case *c, uint32_t 
     }
     if (before < 4)
         return 3;
-    *place = 0;
-    return 0;
+    return check(c->procs, c->policy, c->table, 3 * c->tasks, c->end, c->trace, 2 * c->releases, 3 * MOST_RELEASES, place);
 }
 
 static size_t put_word(uint8_t *out, size_t at, const char *w)

@@ -15,6 +15,8 @@ struct read_case {
     uint32_t trace[2 * MOST_RELEASES];
 };
 
+int check(uint32_t procs, uint32_t policy, const uint32_t *table, size_t table_len, uint32_t end, const uint32_t *trace, size_t trace_len,
+          size_t room_len, uint32_t *place);
 int read_text(const uint8_t *text, size_t length, struct read_case *c, uint32_t *place);
 size_t write_text(const struct read_case *c, uint8_t *out);
 
