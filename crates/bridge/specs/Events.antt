@@ -2,7 +2,7 @@
 -- as missed right after it.
 use mathlib.Core.Path.{_≡_, refl, ap, sym, _∙_}
 use mathlib.Core.Bool.{Bool, true, false, _&&_, _||_, false≢true, true≢false}
-use Prim.Native.Nat.{ℕ, suc, _+_, _-_, _<_}
+use Prim.Native.Nat.{ℕ, suc, _-_, _<_}
 use native.Mathlib.Omega.{arith}
 use lib.Dec.{eqb, leb}
 use borrow.Author.Tests.{eqb-true, eqb-false, le-leb, lt-leb}
@@ -12,6 +12,7 @@ use Rattle.rules.specs.Slot.{isPresent, leftOf, dueOf, isMissed, isCf, isDemote
 use Rattle.rules.specs.Replay.{setupIn, releasedAt, stateAt, ranAt, finishedAt, missedAt, demotedAt, verdictOf, Record, recordOf, recordBy}
 use Rattle.rules.specs.declared.Job.{Job}
 use Rattle.rules.specs.declared.Job.the-variants.{Idle, Normal, Demoted}
+use Rattle.bridge.specs.Lists.{and-none}
 use Rattle.bridge.specs.Steps.{lowers}
 use Rattle.bridge.specs.Jobs.{kept-opened}
 use Rattle.bridge.specs.Stands.{readyAt, openAt, finished-at, demoted-at, ran-present, next-at}
@@ -43,10 +44,6 @@ absent-demotes : (j : Job) → isPresent j ≡ false → isDemotedNow j ≡ fals
 absent-demotes Idle e = refl
 absent-demotes (Normal l f d) e = absurd (true≢false e)
 absent-demotes (Demoted l d) e = refl
-
-and-none : (b : Bool) → (b && false) ≡ false
-and-none true = refl
-and-none false = refl
 
 -- a deadline that is still to come has come after one slot more just where it is then
 just-come : (t due : ℕ) → t < due → leb due (suc t) ≡ eqb due (suc t)

@@ -5,7 +5,7 @@ use native.Mathlib.Numerals.{add-one}
 use native.Mathlib.Omega.{arith}
 use borrow.Author.Tests.{eq-eqb, ne-eqb}
 use Rattle.rules.specs.declared.Fault.{Fault}
-use Rattle.rules.specs.Refusals.{noFault, orNext, first, firstOf}
+use Rattle.rules.specs.Refusals.{noFault, orNext, firstOf}
 
 pub next-none : (f g : Fault) → f .number ≡ 0 → orNext f g ≡ g
 unfolding orNext

@@ -75,7 +75,7 @@ low-next zero t b true e = rw e
 low-next zero t b false e = rw e
 low-next (suc d) t b dm e = rw e
 
-idle-now : (j : Job) → isPresent j ≡ false → j ≡ Idle
+pub idle-now : (j : Job) → isPresent j ≡ false → j ≡ Idle
 idle-now Idle e = refl
 idle-now (Normal l f d) e = absurd (true≢false e)
 idle-now (Demoted l d) e = absurd (true≢false e)

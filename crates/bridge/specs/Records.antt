@@ -16,10 +16,11 @@ use Rattle.rules.specs.Replay.{setupIn, releasedIn, releasedAt, idleTask, state
 use Rattle.rules.specs.declared.Job.{Job}
 use Rattle.rules.specs.declared.Job.the-variants.{Idle, Normal, Demoted}
 use Rattle.rules.specs.declared.Task.{Task}
-use Rattle.bridge.specs.Lists.{tab-at}
+use Rattle.bridge.specs.Lists.{tab-at, and-none}
 use Rattle.bridge.specs.Steps.{lowers, judgedJob}
-use Rattle.bridge.specs.Jobs.{Kept, kept-opened, Stand, written}
-use Rattle.bridge.specs.Stands.{Sole, readyAt, openAt, ready, stands, next-at, ran-present, demoted-at}
+use Rattle.bridge.specs.Jobs.{Kept, kept-opened, Stand, written, idle-now}
+use Rattle.bridge.specs.Course.{Sole}
+use Rattle.bridge.specs.Stands.{replayOf, readyAt, openAt, ready, stands, next-at, ran-present, demoted-at}
 use Rattle.bridge.specs.Legal.{Legal, Good}
 
 -- ---- the set released at t
@@ -60,7 +61,7 @@ module _ (c : Case) (g : Legal c) where
   pub good-at : (j : ℕ) → j < releaseCount (c .trace) → Good (period (c .table) (taskAt c j)) (execution (c .table) (taskAt c j)) (deadline (c .table) (taskAt c j))
   good-at j h = g .good (taskAt c j) (omega (arith, g .named j h))
 
-  pub sole : (j : ℕ) → j < releaseCount (c .trace) → Sole c (taskAt c j) (timeOf (c .trace) j)
+  pub sole : (j : ℕ) → j < releaseCount (c .trace) → Sole (replayOf c) (taskAt c j) (timeOf (c .trace) j)
   sole j h =
       let n = g .named j h in
       let d = good-at j h .within in
@@ -89,12 +90,7 @@ module _ (c : Case) (i : ℕ) (l : i < 32) where
   idle-next t e =
       let k = kept-opened (isCf (setupIn c)) (lowers (setupIn c) t (releasedAt c t) (stateAt c t)) (readyAt c t i) in
       let n : isPresent (openAt c t i) ≡ false = k .there ∙ ap isPresent e in
-      next-at c i l t ∙ rw (ran-present c i l t n) (nothing (openAt c t i) n)
-    where
-      nothing : (j : Job) → isPresent j ≡ false → j ≡ Idle
-      nothing Idle e = refl
-      nothing (Normal x y z) e = absurd (true≢false e)
-      nothing (Demoted x y) e = absurd (true≢false e)
+      next-at c i l t ∙ rw (ran-present c i l t n) (idle-now (openAt c t i) n)
 
   idle-ready : (t : ℕ) → releasedAt c t i ≡ false → jobAt (stateAt c t) i ≡ Idle → readyAt c t i ≡ Idle
   idle-ready t r e = rw (r, e)
@@ -120,7 +116,7 @@ due-gone : (f d due : ℕ) (j : Job) → Stand f d due j → judgedJob due j ≡
 due-gone f d due j (inl (e, v)) = rw (v .there, eq-eqb (dueOf j) due (v .its))
 due-gone f d due j (inr (p, e)) = rw e
 
-pub over : (c : Case) (i a : ℕ) → Sole c i a → 0 < deadline (c .table) i → (t : ℕ) → a + deadline (c .table) i ≤ t
+pub over : (c : Case) (i a : ℕ) → Sole (replayOf c) i a → 0 < deadline (c .table) i → (t : ℕ) → a + deadline (c .table) i ≤ t
     → ((u : ℕ) → a < u → u ≤ t → releasedAt c u i ≡ false) → readyAt c t i ≡ Idle
 over c i a s pos t h none =
     let D = deadline (c .table) i in
@@ -157,7 +153,7 @@ pub record LiveAt (c : Case) (i a t : ℕ) : Type 0 where
   pub before : jobRecord c i a t ≡ recordOf 3 0 (demotionBy c i a t)
   pub behind : jobRecord c i a (suc t) ≡ noted t (finishedAt c t i) (demotedAt c t i) (a + deadline (c .table) i) (demotionBy c i a t)
 
-module _ (c : Case) (i a : ℕ) (s : Sole c i a) (pos : 0 < deadline (c .table) i) where
+module _ (c : Case) (i a : ℕ) (s : Sole (replayOf c) i a) (pos : 0 < deadline (c .table) i) where
   -- the record depends only on how many of its slots have been, and on whether its deadline has come
   same-slots : (t u : ℕ) → slotsBy c i a t ≡ slotsBy c i a u → leb (a + deadline (c .table) i) t ≡ leb (a + deadline (c .table) i) u
       → jobRecord c i a t ≡ jobRecord c i a u
@@ -202,14 +198,10 @@ module _ (c : Case) (i a : ℕ) (s : Sole c i a) (pos : 0 < deadline (c .table) 
         go : Stand fin dem (a + deadline (c .table) i) (readyAt c (a + n) i) → jobRecord c i a (suc (a + n)) ≡ jobRecord c i a (a + n)
         go (inl (z, v)) = absurd (true≢false (sym (kept .there ∙ v .there) ∙ e))
         go (inr (p, z)) =
-            let q : demotedAt c (a + n) i ≡ false = demoted-at c i (s .task) (a + n) ∙ rw z (idle-demotes (isCf (setupIn c))) in
+            let q : demotedAt c (a + n) i ≡ false = demoted-at c i (s .task) (a + n) ∙ rw z (and-none (isCf (setupIn c))) in
             next ∙
             rw (q, orElse-some fin (suc (a + n)) (finishedAt c (a + n) i) p, orElse-not dem (suc (a + n)))
             (ap (λ (x : ℕ). recordOf x fin dem) (verdict-some fin _ _ p) ∙ sym now)
-          where
-            idle-demotes : (b : Bool) → (b && false) ≡ false
-            idle-demotes true = refl
-            idle-demotes false = refl
 
     pub live-at : isPresent (openAt c (a + n) i) ≡ true → LiveAt c i a (a + n)
     unfolding demotionBy
