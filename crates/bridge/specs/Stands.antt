@@ -79,21 +79,21 @@ replay-finished c t i = rw (replay-state c t) (once (present (opened (setupIn c)
 
 -- so the job of a release that is the only one of its task until its deadline stands as in a course
 module _ (c : Case) (i a : ℕ) (s : Sole (replayOf c) i a) where
-  finishes : _≡_ {A = ℕ → Bool} (λ t. finishedIn (replayOf c) t i) (λ t. finishedAt c t i)
-  finishes = fun-ext (λ t. replay-finished c t i)
+  same-finishes : _≡_ {A = ℕ → Bool} (λ t. finishedIn (replayOf c) t i) (λ t. finishedAt c t i)
+  same-finishes = fun-ext (λ t. replay-finished c t i)
 
-  demotes : _≡_ {A = ℕ → Bool} (λ t. demotedIn (replayOf c) t i) (λ t. demotedAt c t i)
-  demotes = fun-ext (λ t. replay-demoted c t i)
+  same-demotions : _≡_ {A = ℕ → Bool} (λ t. demotedIn (replayOf c) t i) (λ t. demotedAt c t i)
+  same-demotions = fun-ext (λ t. replay-demoted c t i)
 
   -- after steps 1 and 2 of each of its slots
   pub ready : (n : ℕ) → n < deadline (c .table) i
       → Stand (firstIn (λ t. finishedAt c t i) a n) (firstIn (λ t. demotedAt c t i) a n) (a + deadline (c .table) i) (readyAt c (a + n) i)
-  ready n h = rw (finishes, demotes, replay-state c (a + n)) at (found-stands (replayOf c) i a s n h)
+  ready n h = rw (same-finishes, same-demotions, replay-state c (a + n)) at (found-stands (replayOf c) i a s n h)
 
   -- and before step 1 of each time after its release, its deadline included
   pub stands : (n : ℕ) → n < deadline (c .table) i
       → Stand (firstIn (λ t. finishedAt c t i) a (suc n)) (firstIn (λ t. demotedAt c t i) a (suc n)) (a + deadline (c .table) i) (jobAt (stateAt c (suc (a + n))) i)
-  stands n h = rw (finishes, demotes, replay-state c (suc (a + n))) at (left-stands (replayOf c) i a s n h)
+  stands n h = rw (same-finishes, same-demotions, replay-state c (suc (a + n))) at (left-stands (replayOf c) i a s n h)
 
 -- going l + k slots is going l, then k
 pub state-split : (g : Setup) (s : ℕ → TaskSet) (a : ℕ) (r : Run) (l k : ℕ) → stateFrom g s a r (l + k) ≡ stateFrom g s (a + l) (stateFrom g s a r l) k

@@ -1,5 +1,6 @@
 -- What the program prints for what is asked of a text, byte for byte, and what its writers ask of the numbers that they print.
 use Prim.Native.Nat.{ℕ, _+_, _*_, _-_, _^_, _≤_, _<_}
+use mathlib.Core.Path.{_≡_, refl}
 use mathlib.Core.List.{List, []}
 use lib.Dec.{eqb, ltb}
 use lib.ListN.{length, getD}
@@ -10,7 +11,7 @@ use Rattle.rules.specs.Answers.{Answer, refusal, result}
 use Rattle.rules.specs.Replay.{recordOf, runningSet}
 use Rattle.rules.specs.Reader.{textFault, caseIn}
 use Rattle.rules.specs.Writer.{joinedText, caseText}
-use Rattle.rules.specs.Report.{jobLine, refusedLine, report}
+use Rattle.rules.specs.Report.{jobLine, refusedLine, report, printed}
 use Rattle.puts.specs.Laid.{Laid}
 use Rattle.report.specs.Lines.{countLine, runningLine}
 use Rattle.thrumcomb.specs.declared.Wish.{Wish}
@@ -53,6 +54,11 @@ caseSays Write c = caseText c
 -- of a text: the refusal's line alone, or what its case says
 unfoldable pub textSays : Wish → List ℕ → List ℕ
 textSays w s = pick (eqb (textFault s .number) 0) (caseSays w (caseIn s)) (refusedLine (textFault s .number) (textFault s .place))
+
+-- without a word after the program's name: just what document 01 says is printed
+pub replay-printed : (s : List ℕ) → textSays Replay s ≡ printed s
+unfolding textSays caseSays printed
+replay-printed s = refl
 
 -- ---- what the writers promise and ask
 -- the first n lines stand from index `at` on, none of them longer than w
