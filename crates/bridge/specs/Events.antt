@@ -1,7 +1,7 @@
 -- What one slot writes: the record of a task's job changes only where the job finishes or is demoted in the slot, or is to be removed
 -- as missed right after it.
 use mathlib.Core.Path.{_≡_, refl, ap, sym, _∙_}
-use mathlib.Core.Bool.{Bool, true, false, _&&_, _||_, false≢true, true≢false}
+use mathlib.Core.Bool.{Bool, true, false, _&&_, _||_, and-false, false≢true, true≢false}
 use Prim.Native.Nat.{ℕ, suc, _-_, _<_}
 use native.Mathlib.Omega.{arith}
 use lib.Dec.{eqb, leb}
@@ -12,7 +12,6 @@ use Rattle.rules.specs.Slot.{isPresent, leftOf, dueOf, isMissed, isCf, isDemote
 use Rattle.rules.specs.Replay.{setupIn, releasedAt, stateAt, ranAt, finishedAt, missedAt, demotedAt, verdictOf, Record, recordOf, recordBy}
 use Rattle.rules.specs.declared.Job.{Job}
 use Rattle.rules.specs.declared.Job.the-variants.{Idle, Normal, Demoted}
-use Rattle.bridge.specs.Lists.{and-none}
 use Rattle.bridge.specs.Steps.{lowers}
 use Rattle.bridge.specs.Jobs.{kept-opened}
 use Rattle.bridge.specs.Stands.{readyAt, openAt, finished-at, demoted-at, ran-present, next-at}
@@ -85,7 +84,7 @@ module _ (c : Case) (t i : ℕ) (l : i < 32) where
       let k = kept-opened (isCf (setupIn c)) (lowers (setupIn c) t (releasedAt c t) (stateAt c t)) (readyAt c t i) in
       let r = ran-present c i l t e in
       let a : fin ≡ false = finished-at c i l t ∙ rw r in
-      let b : dem ≡ false = demoted-at c i l t ∙ rw (absent-demotes (readyAt c t i) (sym (k .there) ∙ e)) (and-none (isCf (setupIn c))) in
+      let b : dem ≡ false = demoted-at c i l t ∙ rw (absent-demotes (readyAt c t i) (sym (k .there) ∙ e)) (and-false (isCf (setupIn c))) in
       let d : late ≡ false = late-here ∙ rw (r, e) in
       rw (a, b, d)
 

@@ -1,6 +1,6 @@
 -- One slot for one job: what it finds, what it leaves, and how the job's finish and demotion so far go on.
-use mathlib.Core.Path.{_≡_, refl, ap, _∙_}
-use mathlib.Core.Bool.{Bool, true, false, _&&_, _||_, false≢true, true≢false}
+use mathlib.Core.Path.{_≡_, refl, sym, ap, _∙_}
+use mathlib.Core.Bool.{Bool, true, false, _&&_, _||_, or-false, false≢true, true≢false}
 use mathlib.Core.Logic.{_⊎_, inl, inr}
 use Prim.Native.Nat.{ℕ, zero, suc, _-_, _<_}
 use native.Mathlib.Omega.{arith}
@@ -23,12 +23,8 @@ kept-lowered Idle = record { there = refl; due = refl; left = refl; lowly = refl
 kept-lowered (Normal l f d) = record { there = refl; due = refl; left = refl; lowly = refl }
 kept-lowered (Demoted l d) = record { there = refl; due = refl; left = refl; lowly = refl }
 
-or-none : (b : Bool) → b ≡ (b || false)
-or-none true = refl
-or-none false = refl
-
 pub kept-demoted : (cf : Bool) (j : Job) → Kept j (demotedJob cf j) (isDemoted j || (cf && isDemotedNow j))
-kept-demoted false j = record { there = refl; due = refl; left = refl; lowly = or-none (isDemoted j) }
+kept-demoted false j = record { there = refl; due = refl; left = refl; lowly = sym (or-false (isDemoted j)) }
 kept-demoted true Idle = record { there = refl; due = refl; left = refl; lowly = refl }
 kept-demoted true (Demoted l d) = record { there = refl; due = refl; left = refl; lowly = refl }
 kept-demoted true (Normal l f d) = go (eqb f l)

@@ -1,6 +1,6 @@
 -- Lists made or changed by index, and lists that stand one after the other. Nothing of scheduling.
 use mathlib.Core.Path.{_≡_, refl, sym, ap, ap₂, _∙_}
-use mathlib.Core.Bool.{Bool, true, false, _&&_}
+use mathlib.Core.Bool.{Bool, true, false}
 use mathlib.Core.Logic.{_⊎_, inl, inr}
 use mathlib.Core.List.{List, [], _∷_, _++_, append-assoc, append-nil}
 use Prim.Native.Nat.{ℕ, zero, suc, _+_, _-_, _≤_, _<_}
@@ -89,10 +89,6 @@ take-first n xs ys e = rw e (take-append-seam xs ys)
 pub picked {ℓ} : {A : Type 0} (P : A → Type ℓ) (b : Bool) (x y : A) → (b ≡ true → P x) → (b ≡ false → P y) → P (pick b x y)
 picked P true x y f g = f refl
 picked P false x y f g = g refl
-
-pub and-none : (b : Bool) → (b && false) ≡ false
-and-none true = refl
-and-none false = refl
 
 pub cases : (b : Bool) → (b ≡ true) ⊎ (b ≡ false)
 cases true = inl refl

@@ -1,6 +1,6 @@
 -- How the record of a release goes on from time t to t + 1, and when its task is idle.
 use mathlib.Core.Path.{_≡_, refl, ap, sym, _∙_}
-use mathlib.Core.Bool.{Bool, true, false, _&&_, _||_, false≢true, true≢false}
+use mathlib.Core.Bool.{Bool, true, false, _&&_, _||_, and-false, or-true, false≢true, true≢false}
 use mathlib.Core.Logic.{_⊎_, inl, inr}
 use mathlib.Core.List.{List}
 use Prim.Native.Nat.{ℕ, zero, suc, _+_, _-_, _≤_, _<_}
@@ -16,7 +16,7 @@ use Rattle.rules.specs.Replay.{setupIn, releasedIn, releasedAt, idleTask, state
 use Rattle.rules.specs.declared.Job.{Job}
 use Rattle.rules.specs.declared.Job.the-variants.{Idle, Normal, Demoted}
 use Rattle.rules.specs.declared.Task.{Task}
-use Rattle.bridge.specs.Lists.{tab-at, and-none}
+use Rattle.bridge.specs.Lists.{tab-at}
 use Rattle.bridge.specs.Steps.{lowers, judgedJob}
 use Rattle.bridge.specs.Jobs.{Kept, kept-opened, Stand, written, idle-now}
 use Rattle.bridge.specs.Course.{Sole}
@@ -24,10 +24,6 @@ use Rattle.bridge.specs.Stands.{replayOf, readyAt, openAt, ready, stands
 use Rattle.bridge.specs.Legal.{Legal, Good}
 
 -- ---- the set released at t
-or-true : (a : Bool) → (a || true) ≡ true
-or-true true = refl
-or-true false = refl
-
 released-yes : (rs : List ℕ) (n t i j : ℕ) → j < n → timeOf rs j ≡ t → nameOf rs j ≡ suc i → releasedIn rs n t i ≡ true
 unfolding releasedIn
 released-yes rs zero t i j h e f = absurd (omega arith)
@@ -198,7 +194,7 @@ module _ (c : Case) (i a : ℕ) (s : Sole (replayOf c) i a) (pos : 0 < deadline 
         go : Stand fin dem (a + deadline (c .table) i) (readyAt c (a + n) i) → jobRecord c i a (suc (a + n)) ≡ jobRecord c i a (a + n)
         go (inl (z, v)) = absurd (true≢false (sym (kept .there ∙ v .there) ∙ e))
         go (inr (p, z)) =
-            let q : demotedAt c (a + n) i ≡ false = demoted-at c i (s .task) (a + n) ∙ rw z (and-none (isCf (setupIn c))) in
+            let q : demotedAt c (a + n) i ≡ false = demoted-at c i (s .task) (a + n) ∙ rw z (and-false (isCf (setupIn c))) in
             next ∙
             rw (q, orElse-some fin (suc (a + n)) (finishedAt c (a + n) i) p, orElse-not dem (suc (a + n)))
             (ap (λ (x : ℕ). recordOf x fin dem) (verdict-some fin _ _ p) ∙ sym now)

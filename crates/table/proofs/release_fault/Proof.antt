@@ -1,13 +1,46 @@
--- `table::release_fault` meets its contract.
-use Rattle.rules.specs.Case.{nameOf, taskCount}
-use Prim.Native.Nat.{_-_}
+-- `table::release_fault` meets its contract: past each test what it found is a fact about the release.
+use mathlib.Core.Path.{_≡_, sym, _∙_}
+use mathlib.Core.Bool.{true, _&&_}
+use Prim.Native.Nat.{ℕ, _-_, _≤_}
 use native.Mathlib.Omega.{arith}
-use mathlib.Core.Path.{sym, _∙_}
+use lib.Dec.{leb}
+use Rattle.rules.specs.Case.{period, nameOf, timeOf, taskCount}
+use Rattle.rules.specs.Refusals.{inOrder, apart, lastBefore}
 use Rattle.table.proofs.Small.{named-bounds, last-at, rel-8, rel-11, rel-9, rel-10, rel-0}
 use borrow.Author.Needs.{needs}
 use Rattle.table.proofs.release_fault.Statement.{statement}
 use Rattle.table.proofs.release_fault.Tie as tie
 
+abbrev start : tie.Then1 → tie.Start
+start c = c .before .before .before .before .before .before
+
+abbrev name : tie.Then1 → ℕ
+name c = nameOf (start c .args .trace .now) (start c .args .j)
+
+-- ---- past the tests
+-- the release names a task of the table
+named : (c : tie.Then1) → (leb 1 (name c) && leb (name c) (taskCount (start c .args .table .now))) ≡ true
+named c = sym (c .before .is-named .ensures) ∙ c .if1 .taken
+
+bounds : (c : tie.Then1) → (1 ≤ name c) × (name c ≤ taskCount (start c .args .table .now)) × (name c ≤ 32)
+bounds c =
+    let w = named-bounds (name c) (taskCount (start c .args .table .now)) _ (c .before .is-named .ensures) (c .if1 .taken) in
+    (w .0, w .1, omega (arith, w .1, start c .pre .0 .few))
+
+-- it comes after the one before it
+ordered : (c : tie.Then3) → inOrder (start (c .before .before .before) .args .trace .now) (start (c .before .before .before) .args .j) ≡ true
+ordered c = sym (c .before .in-order .ensures) ∙ c .if3 .taken
+
+-- and whether T has passed since the last of its task is known
+far : (c : tie.After-is-apart)
+    → c .is-apart .result ≡ apart (lastBefore (start (c .before .before .before .before .before) .args .trace .now) (start (c .before .before .before .before .before) .args .j) (name (c .before .before .before .before .before)))
+    (period (start (c .before .before .before .before .before) .args .table .now) (name (c .before .before .before .before .before) - 1)) (timeOf (start (c .before .before .before .before .before) .args .trace .now) (start (c .before .before .before .before .before) .args .j))
+far c =
+    let d = c .before .before .before .before .before in
+    let w = bounds d in
+    rw (last-at _ _ _ (name d) (start d .pre .3) (w .0) (w .2)) at (c .is-apart .ensures)
+
+-- ---- the needs
 mul-time : tie.Need-mul-time
 mul-time c = search needs
 
@@ -42,99 +75,56 @@ in-order-requires : tie.Need-in-order-requires
 in-order-requires c κs = search needs
 
 cast-i : tie.Need-cast-i
-cast-i c =
-    let q = c .before .before .before .before .before .before .before .before .before .pre in
-    let w = named-bounds (nameOf (c .before .before .before .before .before .before .before .before .before .args .trace .now) (c .before .before .before .before .before .before .before .before .before .args .j)) (taskCount (c .before .before .before .before .before .before .before .before .before .args .table .now)) _ (c .before .before .before .before .is-named .ensures) (c .before .before .before .if1 .taken) in
-    omega (arith, w .0, w .1, q .0 .few)
+cast-i c = omega (arith, bounds (c .before .before .before))
 
 sub-i : tie.Need-sub-i
-sub-i c =
-    let q = c .before .before .before .before .before .before .before .before .before .pre in
-    let w = named-bounds (nameOf (c .before .before .before .before .before .before .before .before .before .args .trace .now) (c .before .before .before .before .before .before .before .before .before .args .j)) (taskCount (c .before .before .before .before .before .before .before .before .before .args .table .now)) _ (c .before .before .before .before .is-named .ensures) (c .before .before .before .if1 .taken) in
-    omega (arith, w .0, w .1, q .0 .few)
+sub-i c = omega (arith, bounds (c .before .before .before))
 
 mul-t : tie.Need-mul-t
-mul-t c =
-    let q = c .before .before .before .before .before .before .before .before .before .pre in
-    let w = named-bounds (nameOf (c .before .before .before .before .before .before .before .before .before .args .trace .now) (c .before .before .before .before .before .before .before .before .before .args .j)) (taskCount (c .before .before .before .before .before .before .before .before .before .args .table .now)) _ (c .before .before .before .before .is-named .ensures) (c .before .before .before .if1 .taken) in
-    omega (arith, w .0, w .1, q .0 .few)
+mul-t c = omega (arith, bounds (c .before .before .before))
 
 mul-t-2 : tie.Need-mul-t-2
-mul-t-2 c =
-    let q = c .before .before .before .before .before .before .before .before .before .pre in
-    let w = named-bounds (nameOf (c .before .before .before .before .before .before .before .before .before .args .trace .now) (c .before .before .before .before .before .before .before .before .before .args .j)) (taskCount (c .before .before .before .before .before .before .before .before .before .args .table .now)) _ (c .before .before .before .before .is-named .ensures) (c .before .before .before .if1 .taken) in
-    omega (arith, w .0, w .1, q .0 .few)
+mul-t-2 c = omega (arith, bounds (c .before .before .before))
 
 shared-slice-read-t : tie.Need-shared-slice-read-t
-shared-slice-read-t c =
-    let q = c .before .before .before .before .before .before .before .before .before .before .pre in
-    let w = named-bounds (nameOf (c .before .before .before .before .before .before .before .before .before .before .args .trace .now) (c .before .before .before .before .before .before .before .before .before .before .args .j)) (taskCount (c .before .before .before .before .before .before .before .before .before .before .args .table .now)) _ (c .before .before .before .before .before .is-named .ensures) (c .before .before .before .before .if1 .taken) in
-    omega (arith, w .0, w .1, q .0 .few)
+shared-slice-read-t c = omega (arith, bounds (c .before .before .before .before))
 
 mul-l : tie.Need-mul-l
-mul-l c =
-    let q = c .before .before .before .before .before .before .before .before .before .before .pre in
-    let w = named-bounds (nameOf (c .before .before .before .before .before .before .before .before .before .before .args .trace .now) (c .before .before .before .before .before .before .before .before .before .before .args .j)) (taskCount (c .before .before .before .before .before .before .before .before .before .before .args .table .now)) _ (c .before .before .before .before .before .is-named .ensures) (c .before .before .before .before .if1 .taken) in
-    omega (arith, w .0, w .1, q .0 .few)
+mul-l c = omega (arith, bounds (c .before .before .before .before))
 
 array-read-l : tie.Need-array-read-l
-array-read-l c =
-    let q = c .before .before .before .before .before .before .before .before .before .before .pre in
-    let w = named-bounds (nameOf (c .before .before .before .before .before .before .before .before .before .before .args .trace .now) (c .before .before .before .before .before .before .before .before .before .before .args .j)) (taskCount (c .before .before .before .before .before .before .before .before .before .before .args .table .now)) _ (c .before .before .before .before .before .is-named .ensures) (c .before .before .before .before .if1 .taken) in
-    omega (arith, w .0, w .1, q .0 .few)
+array-read-l c = omega (arith, bounds (c .before .before .before .before))
 
 is-apart-requires : tie.Need-is-apart-requires
 is-apart-requires c κs =
-    let q = c .before .before .before .before .before .before .before .before .before .before .pre in
-    let w = named-bounds (nameOf (c .before .before .before .before .before .before .before .before .before .before .args .trace .now) (c .before .before .before .before .before .before .before .before .before .before .args .j)) (taskCount (c .before .before .before .before .before .before .before .before .before .before .args .table .now)) _ (c .before .before .before .before .before .is-named .ensures) (c .before .before .before .before .if1 .taken) in
-    let m = q .0 .good (nameOf (c .before .before .before .before .before .before .before .before .before .before .args .trace .now) (c .before .before .before .before .before .before .before .before .before .before .args .j) - 1) (omega (arith, w .0, w .1)) in
-    (rw (last-at _ _ _ (nameOf (c .before .before .before .before .before .before .before .before .before .before .args .trace .now) (c .before .before .before .before .before .before .before .before .before .before .args .j)) (q .3) (w .0) (omega (arith, w .1, q .0 .few))) (q .4 _), m .small)
+    let d = c .before .before .before .before in
+    let q = start d .pre in
+    let w = bounds d in
+    (rw (last-at _ _ _ (name d) (q .3) (w .0) (w .2)) (q .4 _), q .0 .good (name d - 1) (omega (arith, w)) .small)
 
 fault-requires : tie.Need-fault-requires
 fault-requires c κs = search needs
 
 returns : tie.Need-returns
-returns c =
-    let q = c .before .before .before .before .before .before .before .before .before .before .before .before .before .pre in
-    let w = named-bounds (nameOf (c .before .before .before .before .before .before .before .before .before .before .before .before .before .args .trace .now) (c .before .before .before .before .before .before .before .before .before .before .before .before .before .args .j)) (taskCount (c .before .before .before .before .before .before .before .before .before .before .before .before .before .args .table .now)) _ (c .before .before .before .before .before .before .before .before .is-named .ensures) (c .before .before .before .before .before .before .before .if1 .taken) in
-    let n = sym (c .before .before .before .before .before .before .before .before .is-named .ensures) ∙ c .before .before .before .before .before .before .before .if1 .taken in
-    let t = c .before .before .before .before .before .before .if2 .taken in
-    let o = sym (c .before .before .before .before .before .in-order .ensures) ∙ c .before .before .before .before .if3 .taken in
-    let l = last-at _ _ _ (nameOf (c .before .before .before .before .before .before .before .before .before .before .before .before .before .args .trace .now) (c .before .before .before .before .before .before .before .before .before .before .before .before .before .args .j)) (q .3) (w .0) (omega (arith, w .1, q .0 .few)) in
-    let f = rw l at (c .before .before .is-apart .ensures) in
-    rel-0 _ _ _ _ _ n t o (sym f ∙ c .before .if4 .taken) (c .fault .ensures)
+returns c = rel-0 _ _ _ _ _ (named (c .before .before .before .before .before .before .before)) (c .before .before .before .before .before .before .if2 .taken) (ordered (c .before .before .before .before)) (sym (far (c .before .before)) ∙ c .before .if4 .taken) (c .fault .ensures)
 
 fault-requires-2 : tie.Need-fault-requires-2
 fault-requires-2 c κs = search needs
 
 returns-2 : tie.Need-returns-2
-returns-2 c =
-    let q = c .before .before .before .before .before .before .before .before .before .before .before .before .before .pre in
-    let w = named-bounds (nameOf (c .before .before .before .before .before .before .before .before .before .before .before .before .before .args .trace .now) (c .before .before .before .before .before .before .before .before .before .before .before .before .before .args .j)) (taskCount (c .before .before .before .before .before .before .before .before .before .before .before .before .before .args .table .now)) _ (c .before .before .before .before .before .before .before .before .is-named .ensures) (c .before .before .before .before .before .before .before .if1 .taken) in
-    let n = sym (c .before .before .before .before .before .before .before .before .is-named .ensures) ∙ c .before .before .before .before .before .before .before .if1 .taken in
-    let t = c .before .before .before .before .before .before .if2 .taken in
-    let o = sym (c .before .before .before .before .before .in-order .ensures) ∙ c .before .before .before .before .if3 .taken in
-    let l = last-at _ _ _ (nameOf (c .before .before .before .before .before .before .before .before .before .before .before .before .before .args .trace .now) (c .before .before .before .before .before .before .before .before .before .before .before .before .before .args .j)) (q .3) (w .0) (omega (arith, w .1, q .0 .few)) in
-    let f = rw l at (c .before .before .is-apart .ensures) in
-    rel-10 _ _ _ _ _ n t o (sym f ∙ c .before .if4 .left) (c .fault2 .ensures)
+returns-2 c = rel-10 _ _ _ _ _ (named (c .before .before .before .before .before .before .before)) (c .before .before .before .before .before .before .if2 .taken) (ordered (c .before .before .before .before)) (sym (far (c .before .before)) ∙ c .before .if4 .left) (c .fault2 .ensures)
 
 fault-requires-3 : tie.Need-fault-requires-3
 fault-requires-3 c κs = search needs
 
 returns-3 : tie.Need-returns-3
-returns-3 c =
-    let n = sym (c .before .before .before .before .before .is-named .ensures) ∙ c .before .before .before .before .if1 .taken in
-    let t = c .before .before .before .if2 .taken in
-    let o = sym (c .before .before .in-order .ensures) ∙ c .before .if3 .left in
-    rel-9 _ _ _ _ _ n t o (c .fault3 .ensures)
+returns-3 c = rel-9 _ _ _ _ _ (named (c .before .before .before .before)) (c .before .before .before .if2 .taken) (sym (c .before .before .in-order .ensures) ∙ c .before .if3 .left) (c .fault3 .ensures)
 
 fault-requires-4 : tie.Need-fault-requires-4
 fault-requires-4 c κs = search needs
 
 returns-4 : tie.Need-returns-4
-returns-4 c =
-    let n = sym (c .before .before .before .is-named .ensures) ∙ c .before .before .if1 .taken in
-    rel-11 _ _ _ _ _ n (c .before .if2 .left) (c .fault4 .ensures)
+returns-4 c = rel-11 _ _ _ _ _ (named (c .before .before)) (c .before .if2 .left) (c .fault4 .ensures)
 
 fault-requires-5 : tie.Need-fault-requires-5
 fault-requires-5 c κs = search needs

@@ -1,11 +1,11 @@
 -- `table::releases_fault` meets its contract.
-use Rattle.rules.specs.declared.Fault.{Fault}
 use borrow.Author.Needs.{needs}
 use native.Mathlib.Omega.{arith}
-use mathlib.Core.Path.{ap, sym, _∙_}
-use Prim.Native.Nat.{_-_, _≤_}
+use Prim.Native.Nat.{_-_, _≤_, _<_}
 use Rattle.rules.specs.Words.{tab}
+use Rattle.rules.specs.Case.{timeOf, nameOf}
 use Rattle.rules.specs.Refusals.{lastBefore}
+use Rattle.bridge.specs.Settled.{clear}
 use Rattle.table.proofs.Checks.{Checked, checked-none, checked-more, checked-hit, checked-all, passed}
 use Rattle.table.proofs.releases_fault.Statement.{statement}
 use Rattle.table.proofs.releases_fault.Tie as tie
@@ -50,35 +50,30 @@ mul-i-2 c = search needs
 shared-slice-read-i : tie.Need-shared-slice-read-i Inv-loop μ-loop
 shared-slice-read-i c = search needs
 
-cast-i : tie.Need-cast-i Inv-loop μ-loop
-cast-i c =
+-- a release that passed names a task of the table, and its time is before the end
+here : (c : tie.After-shared-slice-known4 Inv-loop μ-loop)
+    → (1 ≤ nameOf (c .before .before .before .before .before .before .before .before .args .trace .now) (c .before .before .before .before .before .loop .j))
+    × (nameOf (c .before .before .before .before .before .before .before .before .args .trace .now) (c .before .before .before .before .before .loop .j) ≤ 32)
+    × (timeOf (c .before .before .before .before .before .before .before .before .args .trace .now) (c .before .before .before .before .before .loop .j) < 100000)
+here c =
     let q = c .before .before .before .before .before .before .before .before .pre in
-    let p = passed _ _ _ _ (ap (λ (u : Fault). u .number) (sym (c .before .before .before .release-fault .ensures)) ∙ c .before .before .if1 .left) in
-    omega (arith, p .some, p .known, p .soon, q .0 .few, q .2)
+    let p = passed _ _ _ _ (clear _ _ (c .before .before .before .release-fault .ensures) (c .before .before .if1 .left)) in
+    (p .some, omega (arith, p .known, q .0 .few), omega (arith, p .soon, q .2))
+
+cast-i : tie.Need-cast-i Inv-loop μ-loop
+cast-i c = omega (arith, here c)
 
 sub-i : tie.Need-sub-i Inv-loop μ-loop
-sub-i c =
-    let q = c .before .before .before .before .before .before .before .before .pre in
-    let p = passed _ _ _ _ (ap (λ (u : Fault). u .number) (sym (c .before .before .before .release-fault .ensures)) ∙ c .before .before .if1 .left) in
-    omega (arith, p .some, p .known, p .soon, q .0 .few, q .2)
+sub-i c = omega (arith, here c)
 
 add-last : tie.Need-add-last Inv-loop μ-loop
-add-last c =
-    let q = c .before .before .before .before .before .before .before .before .pre in
-    let p = passed _ _ _ _ (ap (λ (u : Fault). u .number) (sym (c .before .before .before .release-fault .ensures)) ∙ c .before .before .if1 .left) in
-    omega (arith, p .some, p .known, p .soon, q .0 .few, q .2)
+add-last c = omega (arith, here c)
 
 mul-last : tie.Need-mul-last Inv-loop μ-loop
-mul-last c =
-    let q = c .before .before .before .before .before .before .before .before .pre in
-    let p = passed _ _ _ _ (ap (λ (u : Fault). u .number) (sym (c .before .before .before .release-fault .ensures)) ∙ c .before .before .if1 .left) in
-    omega (arith, p .some, p .known, p .soon, q .0 .few, q .2)
+mul-last c = omega (arith, here c)
 
 array-write-last : tie.Need-array-write-last Inv-loop μ-loop
-array-write-last c =
-    let q = c .before .before .before .before .before .before .before .before .pre in
-    let p = passed _ _ _ _ (ap (λ (u : Fault). u .number) (sym (c .before .before .before .release-fault .ensures)) ∙ c .before .before .if1 .left) in
-    omega (arith, p .some, p .known, p .soon, q .0 .few, q .2)
+array-write-last c = omega (arith, here c)
 
 add-j : tie.Need-add-j Inv-loop μ-loop
 add-j c = search needs
