@@ -1,7 +1,7 @@
 -- What one slot writes: the record of a task's job (`recordBy` of rules, Replay) changes only where the job finishes or is demoted in the
 -- slot, or is to be removed as missed right after it; and what it is then. The proofs of the replay cite it: it writes nothing else.
 use mathlib.Core.Path.{_≡_, refl, ap, sym, _∙_}
-use mathlib.Core.Bool.{Bool, true, false, _&&_, _||_, false≢true, true≢false}
+use mathlib.Core.Bool.{Bool, true, false, _&&_, _||_, and-false, false≢true, true≢false}
 use Prim.Native.Nat.{ℕ, suc, _-_, _<_}
 use native.Mathlib.Omega.{arith}
 use lib.Dec.{eqb, leb}
@@ -44,10 +44,6 @@ absent-demotes Idle e = refl
 absent-demotes (Normal l f d) e = absurd (true≢false e)
 absent-demotes (Demoted l d) e = refl
 
-and-none : (b : Bool) → (b && false) ≡ false
-and-none true = refl
-and-none false = refl
-
 -- a deadline that is still to come has come after one slot more just where it is then
 just-come : (t due : ℕ) → t < due → leb due (suc t) ≡ eqb due (suc t)
 just-come t due h = go (eqb due (suc t)) refl
@@ -88,7 +84,7 @@ module _ (c : Case) (t i : ℕ) (l : i < 32) where
       let k = kept-opened (isCf (setupIn c)) (lowers (setupIn c) t (releasedAt c t) (stateAt c t)) (readyAt c t i) in
       let r = ran-present c i l t e in
       let a : fin ≡ false = finished-at c i l t ∙ rw r in
-      let b : dem ≡ false = demoted-at c i l t ∙ rw (absent-demotes (readyAt c t i) (sym (k .there) ∙ e)) (and-none (isCf (setupIn c))) in
+      let b : dem ≡ false = demoted-at c i l t ∙ rw (absent-demotes (readyAt c t i) (sym (k .there) ∙ e)) (and-false (isCf (setupIn c))) in
       let d : late ≡ false = late-here ∙ rw (r, e) in
       rw (a, b, d)
 

@@ -1,7 +1,7 @@
 -- One slot for one job (steps 3 to 6 of rules, Slot): what it finds, what it leaves, and how the job's finish and demotion so far go on.
 -- `slot-stand` is the step law, from any job; Stands makes of it how the job of a release stands at each time.
-use mathlib.Core.Path.{_≡_, refl, ap, _∙_}
-use mathlib.Core.Bool.{Bool, true, false, _&&_, _||_, false≢true, true≢false}
+use mathlib.Core.Path.{_≡_, refl, sym, ap, _∙_}
+use mathlib.Core.Bool.{Bool, true, false, _&&_, _||_, or-false, false≢true, true≢false}
 use mathlib.Core.Logic.{_⊎_, inl, inr}
 use Prim.Native.Nat.{ℕ, zero, suc, _-_, _<_}
 use native.Mathlib.Omega.{arith}
@@ -24,12 +24,8 @@ kept-lowered Idle = record { there = refl; due = refl; left = refl; lowly = refl
 kept-lowered (Normal l f d) = record { there = refl; due = refl; left = refl; lowly = refl }
 kept-lowered (Demoted l d) = record { there = refl; due = refl; left = refl; lowly = refl }
 
-or-none : (b : Bool) → b ≡ (b || false)
-or-none true = refl
-or-none false = refl
-
 pub kept-demoted : (cf : Bool) (j : Job) → Kept j (demotedJob cf j) (isDemoted j || (cf && isDemotedNow j))
-kept-demoted false j = record { there = refl; due = refl; left = refl; lowly = or-none (isDemoted j) }
+kept-demoted false j = record { there = refl; due = refl; left = refl; lowly = sym (or-false (isDemoted j)) }
 kept-demoted true Idle = record { there = refl; due = refl; left = refl; lowly = refl }
 kept-demoted true (Demoted l d) = record { there = refl; due = refl; left = refl; lowly = refl }
 kept-demoted true (Normal l f d) = go (eqb f l)
@@ -76,7 +72,7 @@ low-next zero t b true e = rw e
 low-next zero t b false e = rw e
 low-next (suc d) t b dm e = rw e
 
-idle-now : (j : Job) → isPresent j ≡ false → j ≡ Idle
+pub idle-now : (j : Job) → isPresent j ≡ false → j ≡ Idle
 idle-now Idle e = refl
 idle-now (Normal l f d) e = absurd (true≢false e)
 idle-now (Demoted l d) e = absurd (true≢false e)

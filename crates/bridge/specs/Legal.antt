@@ -4,7 +4,7 @@ use mathlib.Core.Path.{_≡_, refl, ap, sym, _∙_}
 use mathlib.Core.Bool.{Bool, true, false, _&&_, _||_, false≢true}
 use mathlib.Core.Logic.{_⊎_, inl, inr}
 use mathlib.Core.List.{List}
-use Prim.Native.Nat.{ℕ, zero, suc, _+_, _-_, _%_, _≤_, _<_}
+use Prim.Native.Nat.{ℕ, zero, suc, _+_, _*_, _-_, _%_, _≤_, _<_}
 use native.Mathlib.Nat.{eq-or-lt-of-le}
 use native.Mathlib.Omega.{arith}
 use lib.ListN.{length}
@@ -14,7 +14,7 @@ use Rattle.rules.specs.declared.Fault.{Fault}
 use Rattle.rules.specs.Words.{pick}
 use Rattle.rules.specs.Case.{Case, taskCount, period, execution, deadline, releaseCount, timeOf, nameOf}
 use Rattle.rules.specs.Refusals.{unless, orNext, firstOf, procsFault, policyFault, tableFault, taskStands, taskFault, tasksFault, endFault, traceFault, lastBefore, laterThan, inOrder, apart, releaseFault, releasesFault, caseFault, Accepted}
-use Rattle.rules.specs.Limits.{maxEnd}
+use Rattle.rules.specs.Limits.{maxEnd, taskWidth, releaseWidth}
 
 pub and-left : (a b : Bool) → (a && b) ≡ true → a ≡ true
 and-left true b e = refl
@@ -97,9 +97,12 @@ pub record Legal (c : Case) : Type 0 where
   pub procs-some : 1 ≤ c .procs
   pub procs-few : c .procs ≤ 32
   pub policy-known : c .policy ≤ 1
+  pub threes : length (c .table) ≡ taskCount (c .table) * taskWidth
+  pub tasks-some : 1 ≤ taskCount (c .table)
   pub tasks-few : taskCount (c .table) ≤ 32
   pub good : (i : ℕ) → i < taskCount (c .table) → Good (period (c .table) i) (execution (c .table) i) (deadline (c .table) i)
   pub end-small : c .end ≤ 100000
+  pub twos : length (c .trace) ≡ releaseCount (c .trace) * releaseWidth
   pub releases-few : releaseCount (c .trace) ≤ 2000
   pub named : (j : ℕ) → j < releaseCount (c .trace) → (1 ≤ nameOf (c .trace) j) × (nameOf (c .trace) j ≤ taskCount (c .table))
   pub before-end : (j : ℕ) → j < releaseCount (c .trace) → timeOf (c .trace) j < c .end
@@ -159,18 +162,22 @@ module _ (c : Case) where
       let f6 = next-clear (traceFault (c .trace)) _ (f5 .1) in
       let f7 = next-clear (releasesFault (c .table) (c .end) (c .trace)) _ (f6 .1) in
       let p : (leb 1 m && leb m 32) ≡ true = unless-clear _ 4 0 (omega arith) (f1 .0) in
-      let q : leb k 32 ≡ true = and-right (eqb (length (c .table) % 3) 0 && leb 1 k) (leb k 32) (unless-clear (eqb (length (c .table) % 3) 0 && leb 1 k && leb k 32) 5 0 (omega arith) (f3 .0)) in
-      let x : leb n 2000 ≡ true = and-right (eqb (length (c .trace) % 2) 0) (leb n 2000) (unless-clear (eqb (length (c .trace) % 2) 0 && leb n 2000) 12 0 (omega arith) (f6 .0)) in
+      let q : (eqb (length (c .table) % 3) 0 && leb 1 k && leb k 32) ≡ true = unless-clear _ 5 0 (omega arith) (f3 .0) in
+      let q1 : (eqb (length (c .table) % 3) 0 && leb 1 k) ≡ true = and-left _ (leb k 32) q in
+      let x : (eqb (length (c .trace) % 2) 0 && leb n 2000) ≡ true = unless-clear _ 12 0 (omega arith) (f6 .0) in
       let r : (j : ℕ) → j < n → Clear j = λ j h. clear-release j (firstOf-clear (releaseFault (c .table) (c .end) (c .trace)) n (f7 .0) j h) in
       let o : (j : ℕ) → j < n → inOrder (c .trace) j ≡ true = λ j h. r j h .order in
       record {
         procs-some = leb-true 1 m (and-left (leb 1 m) _ p);
         procs-few = leb-true m 32 (and-right (leb 1 m) _ p);
         policy-known = leb-true _ 1 (unless-clear _ 14 0 (omega arith) (f2 .0));
-        tasks-few = leb-true k 32 q;
+        threes = omega (arith, eqb-true (length (c .table) % 3) 0 (and-left _ (leb 1 k) q1));
+        tasks-some = leb-true 1 k (and-right (eqb (length (c .table) % 3) 0) (leb 1 k) q1);
+        tasks-few = leb-true k 32 (and-right (eqb (length (c .table) % 3) 0 && leb 1 k) (leb k 32) q);
         good = λ i h. clear-good i (firstOf-clear (taskFault (c .table)) k (f4 .0) i h);
         end-small = leb-true _ maxEnd (unless-clear _ 7 0 (omega arith) (f5 .0));
-        releases-few = leb-true n 2000 x;
+        twos = omega (arith, eqb-true (length (c .trace) % 2) 0 (and-left _ (leb n 2000) x));
+        releases-few = leb-true n 2000 (and-right (eqb (length (c .trace) % 2) 0) (leb n 2000) x);
         named = λ j h. (
           leb-true 1 _ (and-left (leb 1 (nameOf (c .trace) j)) _ (r j h .name)),
           leb-true _ k (and-right (leb 1 (nameOf (c .trace) j)) _ (r j h .name)),

@@ -1,14 +1,16 @@
--- Lists made or changed by index, and choices: laws of `tab`, `mapAt` and `pick` (rules, Words). Nothing of scheduling.
--- A run is a list of tasks, and the records are a list of numbers: most laws about either cite these.
-use mathlib.Core.Path.{_≡_, refl, ap, ap₂, _∙_}
+-- Lists made or changed by index, texts that stand one after the other, and choices: laws of `tab`, `mapAt`, `pick` (rules, Words) and
+-- `joinedText` (rules, Writer). Nothing of scheduling. A run is a list of tasks, and the records are a list of numbers: most laws cite these.
+use mathlib.Core.Path.{_≡_, refl, sym, ap, ap₂, _∙_}
 use mathlib.Core.Bool.{Bool, true, false}
 use mathlib.Core.Logic.{_⊎_, inl, inr}
-use mathlib.Core.List.{List, [], _∷_, _++_}
+use mathlib.Core.List.{List, [], _∷_, _++_, append-assoc, append-nil}
 use Prim.Native.Nat.{ℕ, zero, suc, _+_, _-_, _≤_, _<_}
 use native.Mathlib.Nat.{not-suc-le-zero, add-zero, add-suc, suc-add, zero-add}
 use native.Mathlib.Omega.{arith}
-use lib.ListN.{length, getD, set, List·getD-append}
+use lib.ListN.{length, getD, set, take, List·getD-append}
+use lib.Seq.{take-append-seam}
 use Rattle.rules.specs.Words.{pick, mapFrom, mapAt, tab}
+use Rattle.rules.specs.Writer.{joinedText}
 
 pub mapFrom-long : {A : Type 0} (f : ℕ → A → A) (k : ℕ) (xs : List A) → length (mapFrom f k xs) ≡ length xs
 unfolding mapFrom
@@ -69,6 +71,20 @@ tab-set-from f g k (suc n) (suc j) l h =
 
 pub tab-set : {A : Type 0} (f g : ℕ → A) (n j : ℕ) → j < n → ((i : ℕ) → i < n → (i ≡ j → ⊥) → f i ≡ g i) → set (tab f 0 n) j (g j) ≡ tab g 0 n
 tab-set f g n j l h = rw (zero-add) at (tab-set-from f g 0 n j l (λ i p q e. h i (omega arith) (λ z. e (omega arith))))
+
+-- ---- one after the other
+joined-last : (ss : List (List ℕ)) (s : List ℕ) → joinedText (ss ++ (s ∷ [])) ≡ joinedText ss ++ s
+unfolding joinedText
+joined-last [] s = append-nil s
+joined-last (r ∷ ss) s = ap (λ (l : List ℕ). r ++ l) (joined-last ss s) ∙ sym (append-assoc r (joinedText ss) s)
+
+-- one text more
+pub joined-more : (f : ℕ → List ℕ) (n : ℕ) → joinedText (tab f 0 (suc n)) ≡ joinedText (tab f 0 n) ++ f n
+joined-more f n = ap joinedText (tab-snoc f 0 n) ∙ joined-last (tab f 0 n) (f (0 + n)) ∙ rw (zero-add n)
+
+-- the first of two
+pub take-first : (n : ℕ) (xs ys : List ℕ) → n ≡ length xs → take n (xs ++ ys) ≡ xs
+take-first n xs ys e = rw e (take-append-seam xs ys)
 
 -- ---- choices
 pub picked {ℓ} : {A : Type 0} (P : A → Type ℓ) (b : Bool) (x y : A) → (b ≡ true → P x) → (b ≡ false → P y) → P (pick b x y)

@@ -1,7 +1,7 @@
 -- How the record of a release (rules, Replay) goes on from time t to t + 1, and when its task is idle; and `sole`, that a task of an
 -- accepted case never has two jobs at once (document 01, "The model"). Turn takes these together for all releases of a task.
 use mathlib.Core.Path.{_≡_, refl, ap, sym, _∙_}
-use mathlib.Core.Bool.{Bool, true, false, _&&_, _||_, false≢true, true≢false}
+use mathlib.Core.Bool.{Bool, true, false, _&&_, _||_, and-false, or-true, false≢true, true≢false}
 use mathlib.Core.Logic.{_⊎_, inl, inr}
 use mathlib.Core.List.{List}
 use Prim.Native.Nat.{ℕ, zero, suc, _+_, _-_, _≤_, _<_}
@@ -19,15 +19,12 @@ use Rattle.rules.specs.declared.Job.the-variants.{Idle, Normal, Demoted}
 use Rattle.rules.specs.declared.Task.{Task}
 use Rattle.bridge.specs.Lists.{tab-at}
 use Rattle.bridge.specs.Steps.{lowers, judgedJob}
-use Rattle.bridge.specs.Jobs.{Kept, kept-opened, Stand, written}
-use Rattle.bridge.specs.Stands.{Sole, readyAt, openAt, ready, stands, next-at, ran-present, demoted-at}
+use Rattle.bridge.specs.Jobs.{Kept, kept-opened, Stand, written, idle-now}
+use Rattle.bridge.specs.Course.{Sole}
+use Rattle.bridge.specs.Stands.{replayOf, readyAt, openAt, ready, stands, next-at, ran-present, demoted-at}
 use Rattle.bridge.specs.Legal.{Legal, Good}
 
 -- ---- the set released at t
-or-true : (a : Bool) → (a || true) ≡ true
-or-true true = refl
-or-true false = refl
-
 released-yes : (rs : List ℕ) (n t i j : ℕ) → j < n → timeOf rs j ≡ t → nameOf rs j ≡ suc i → releasedIn rs n t i ≡ true
 unfolding releasedIn
 released-yes rs zero t i j h e f = absurd (omega arith)
@@ -61,7 +58,7 @@ module _ (c : Case) (g : Legal c) where
   pub good-at : (j : ℕ) → j < releaseCount (c .trace) → Good (period (c .table) (taskAt c j)) (execution (c .table) (taskAt c j)) (deadline (c .table) (taskAt c j))
   good-at j h = g .good (taskAt c j) (omega (arith, g .named j h))
 
-  pub sole : (j : ℕ) → j < releaseCount (c .trace) → Sole c (taskAt c j) (timeOf (c .trace) j)
+  pub sole : (j : ℕ) → j < releaseCount (c .trace) → Sole (replayOf c) (taskAt c j) (timeOf (c .trace) j)
   sole j h =
       let n = g .named j h in
       let d = good-at j h .within in
@@ -90,12 +87,7 @@ module _ (c : Case) (i : ℕ) (l : i < 32) where
   idle-next t e =
       let k = kept-opened (isCf (setupIn c)) (lowers (setupIn c) t (releasedAt c t) (stateAt c t)) (readyAt c t i) in
       let n : isPresent (openAt c t i) ≡ false = k .there ∙ ap isPresent e in
-      next-at c i l t ∙ rw (ran-present c i l t n) (nothing (openAt c t i) n)
-    where
-      nothing : (j : Job) → isPresent j ≡ false → j ≡ Idle
-      nothing Idle e = refl
-      nothing (Normal x y z) e = absurd (true≢false e)
-      nothing (Demoted x y) e = absurd (true≢false e)
+      next-at c i l t ∙ rw (ran-present c i l t n) (idle-now (openAt c t i) n)
 
   idle-ready : (t : ℕ) → releasedAt c t i ≡ false → jobAt (stateAt c t) i ≡ Idle → readyAt c t i ≡ Idle
   idle-ready t r e = rw (r, e)
@@ -121,7 +113,7 @@ due-gone : (f d due : ℕ) (j : Job) → Stand f d due j → judgedJob due j ≡
 due-gone f d due j (inl (e, v)) = rw (v .there, eq-eqb (dueOf j) due (v .its))
 due-gone f d due j (inr (p, e)) = rw e
 
-pub over : (c : Case) (i a : ℕ) → Sole c i a → 0 < deadline (c .table) i → (t : ℕ) → a + deadline (c .table) i ≤ t
+pub over : (c : Case) (i a : ℕ) → Sole (replayOf c) i a → 0 < deadline (c .table) i → (t : ℕ) → a + deadline (c .table) i ≤ t
     → ((u : ℕ) → a < u → u ≤ t → releasedAt c u i ≡ false) → readyAt c t i ≡ Idle
 over c i a s pos t h none =
     let D = deadline (c .table) i in
@@ -158,7 +150,7 @@ pub record LiveAt (c : Case) (i a t : ℕ) : Type 0 where
   pub before : jobRecord c i a t ≡ recordOf 3 0 (demotionBy c i a t)
   pub behind : jobRecord c i a (suc t) ≡ noted t (finishedAt c t i) (demotedAt c t i) (a + deadline (c .table) i) (demotionBy c i a t)
 
-module _ (c : Case) (i a : ℕ) (s : Sole c i a) (pos : 0 < deadline (c .table) i) where
+module _ (c : Case) (i a : ℕ) (s : Sole (replayOf c) i a) (pos : 0 < deadline (c .table) i) where
   -- the record depends only on how many of its slots have been, and on whether its deadline has come
   same-slots : (t u : ℕ) → slotsBy c i a t ≡ slotsBy c i a u → leb (a + deadline (c .table) i) t ≡ leb (a + deadline (c .table) i) u
       → jobRecord c i a t ≡ jobRecord c i a u
@@ -203,14 +195,10 @@ module _ (c : Case) (i a : ℕ) (s : Sole c i a) (pos : 0 < deadline (c .table) 
         go : Stand fin dem (a + deadline (c .table) i) (readyAt c (a + n) i) → jobRecord c i a (suc (a + n)) ≡ jobRecord c i a (a + n)
         go (inl (z, v)) = absurd (true≢false (sym (kept .there ∙ v .there) ∙ e))
         go (inr (p, z)) =
-            let q : demotedAt c (a + n) i ≡ false = demoted-at c i (s .task) (a + n) ∙ rw z (idle-demotes (isCf (setupIn c))) in
+            let q : demotedAt c (a + n) i ≡ false = demoted-at c i (s .task) (a + n) ∙ rw z (and-false (isCf (setupIn c))) in
             next ∙
             rw (q, orElse-some fin (suc (a + n)) (finishedAt c (a + n) i) p, orElse-not dem (suc (a + n)))
             (ap (λ (x : ℕ). recordOf x fin dem) (verdict-some fin _ _ p) ∙ sym now)
-          where
-            idle-demotes : (b : Bool) → (b && false) ≡ false
-            idle-demotes true = refl
-            idle-demotes false = refl
 
     pub live-at : isPresent (openAt c (a + n) i) ≡ true → LiveAt c i a (a + n)
     unfolding demotionBy

@@ -1,10 +1,9 @@
 -- How a call settles: laws of `settled` and `kept` (rules, Answers). A refusal gives number and place and leaves its room; and an answer
 -- in document 01's numbers is that of one case of its enum alone. For Decided and the proofs of the calls on numbers.
 use mathlib.Core.Path.{_≡_, refl, ap, sym, _∙_}
-use mathlib.Core.Bool.{Bool, true, false}
-use mathlib.Core.List.{List}
+use mathlib.Core.Bool.{Bool, true, false, false≢true}
+use mathlib.Core.List.{List, []}
 use Prim.Native.Nat.{ℕ}
-use native.Mathlib.Omega.{arith}
 use lib.Dec.{eqb}
 use borrow.Author.Tests.{eqb-true, eq-eqb, ne-eqb}
 use Rattle.rules.specs.declared.Fault.{Fault}
@@ -19,7 +18,7 @@ use Rattle.rules.specs.declared.Taken.the-variants as Taken·
 use Rattle.rules.specs.declared.Written.{Written}
 use Rattle.rules.specs.declared.Written.the-variants as Written·
 use Rattle.rules.specs.Words.{pick}
-use Rattle.rules.specs.Answers.{refusal, result, settled, kept, countedAs, replayedAs, runningAs, takenAs, writtenAs}
+use Rattle.rules.specs.Answers.{Answer, refusal, result, settled, kept, countedAs, replayedAs, runningAs, takenAs, writtenAs}
 
 -- ---- x is what the checks found: a fault, or none
 module _ (x f : Fault) (e : x ≡ f) where
@@ -42,17 +41,35 @@ module _ (x f : Fault) (e : x ≡ f) where
   pub clear : x .number ≡ 0 → f .number ≡ 0
   clear h = ap (λ (u : Fault). u .number) (sym e) ∙ h
 
--- ---- a call that gives results found nothing at fault, and its room is the new one
-pub result-clear : (f : Fault) (vs ws : List ℕ) → settled f vs ≡ result ws → f .number ≡ 0
-unfolding settled
-result-clear f vs ws = go (eqb (f .number) 0) refl
-  where
-    go : (b : Bool) → eqb (f .number) 0 ≡ b → pick b (result vs) (refusal (f .number) (f .place)) ≡ result ws → f .number ≡ 0
-    go true q e = eqb-true _ _ q
-    go false q e = absurd (let z : _≡_ {A = ℕ} 0 1 = cc in omega arith)
+-- ---- where nothing is at fault the values are the result and the room is the new one
+pub settled-clear : (f : Fault) (vs : List ℕ) → f .number ≡ 0 → settled f vs ≡ result vs
+settled-clear f vs h = sym (settles f f refl vs h)
 
 pub kept-new : (f : Fault) (new old : List ℕ) → f .number ≡ 0 → kept f new old ≡ new
 kept-new f new old h = sym (puts f f refl new old h)
+
+-- ---- a call that gives results found nothing at fault, and these are its values; a refusal is that of the fault that it names
+abbrev isResult : Answer → Bool
+isResult (refusal n p) = false
+isResult (result vs) = true
+
+abbrev pub valuesOf : Answer → List ℕ
+valuesOf (refusal n p) = []
+valuesOf (result vs) = vs
+
+pub no-refusal : (n p : ℕ) (vs : List ℕ) → refusal n p ≡ result vs → ⊥
+no-refusal n p vs e = false≢true (ap isResult e)
+
+pub settled-result : (f : Fault) (vs ws : List ℕ) → settled f vs ≡ result ws → (f .number ≡ 0) × (vs ≡ ws)
+unfolding settled
+settled-result f vs ws = go (eqb (f .number) 0) refl
+  where
+    go : (b : Bool) → eqb (f .number) 0 ≡ b → pick b (result vs) (refusal (f .number) (f .place)) ≡ result ws → (f .number ≡ 0) × (vs ≡ ws)
+    go true q e = (eqb-true _ _ q, ap valuesOf e)
+    go false q e = absurd (no-refusal _ _ _ e)
+
+pub result-clear : (f : Fault) (vs ws : List ℕ) → settled f vs ≡ result ws → f .number ≡ 0
+result-clear f vs ws e = settled-result f vs ws e .0
 
 -- ---- an answer in the document's numbers is that of one case alone
 pub counted-once : (x y : Counted) → countedAs x ≡ countedAs y → x ≡ y

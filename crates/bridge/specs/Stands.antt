@@ -1,23 +1,21 @@
--- The bridge from records to states: how the job of a release stands at each time up to its deadline, there and unfinished or finished
--- and gone, by the finish and the demotion of its record (rules, Replay). The replay and the theorems both rest on it.
+-- The bridge from records to states: the replay is a course (Course), so at each time up to its deadline the job of a release is there and
+-- unfinished or finished and gone, by the finish and the demotion of its record (rules, Replay). The proofs of the replay rest on it.
 -- Also `state-split`: going l + k slots is going l, then k.
-use mathlib.Core.Path.{_≡_, refl, ap, _∙_}
-use mathlib.Core.Bool.{true, false, _&&_}
-use mathlib.Core.Logic.{inl, inr}
+use mathlib.Core.Path.{_≡_, refl, sym, ap, _∙_, fun-ext}
+use mathlib.Core.Bool.{Bool, true, false, _&&_}
 use Prim.Native.Nat.{ℕ, zero, suc, _+_, _-_, _<_}
 use native.Mathlib.Nat.{add-zero, add-suc, zero-add, add-assoc}
-use native.Mathlib.Omega.{arith}
-use lib.Dec.{eqb, leb}
-use borrow.Author.Tests.{ne-eqb}
+use lib.Dec.{leb}
 use Rattle.rules.specs.Words.{pick, firstIn}
 use Rattle.rules.specs.Case.{Case, deadline}
-use Rattle.rules.specs.Slot.{Setup, TaskSet, jobAt, isPresent, leftOf, dueOf, present, isCf, isDemotedNow, opened, chosen, workedJob, after, ran, finished, demotedNow}
+use Rattle.rules.specs.Slot.{Setup, TaskSet, jobAt, isPresent, leftOf, present, isCf, isDemotedNow, opened, chosen, worked, workedJob, after, ran, finished, demotedNow}
 use Rattle.rules.specs.Replay.{setupIn, releasedAt, stateFrom, stateAt, finishedAt, demotedAt, ranAt}
 use Rattle.rules.specs.declared.Job.{Job}
 use Rattle.rules.specs.declared.Run.{Run}
 use Rattle.bridge.specs.Lists.{tab-long}
-use Rattle.bridge.specs.Steps.{Full, after-full, readied-at, opened-at, after-at, readiedJob, openedJob, judgedJob, lowers}
-use Rattle.bridge.specs.Jobs.{Stand, slot-stand}
+use Rattle.bridge.specs.Steps.{Full, after-full, readied-at, opened-at, after-at, readiedJob, openedJob, lowers}
+use Rattle.bridge.specs.Jobs.{Stand}
+use Rattle.bridge.specs.Course.{Course, stateIn, demotedIn, finishedIn, Sole, found-stands, left-stands}
 
 -- ---- states, slot by slot
 pub state-next : (c : Case) (t : ℕ) → stateAt c (suc t) ≡ after (setupIn c) t (releasedAt c t) (stateAt c t)
@@ -56,49 +54,48 @@ module _ (c : Case) (i : ℕ) (l : i < 32) (t : ℕ) where
   unfolding ranAt
   next-at = ap (λ (r : Run). jobAt r i) (state-next c t) ∙ after-at i l (setupIn c) t (releasedAt c t) (stateAt c t) (state-full c t) ∙ rw open-at
 
--- ---- a release of task i at a that is the only one of the task until its deadline
-pub record Sole (c : Case) (i a : ℕ) : Type 0 where
-  pub task : i < 32
-  pub released : releasedAt c a i ≡ true
-  pub alone : (u : ℕ) → a < u → u < a + deadline (c .table) i → releasedAt c u i ≡ false
+-- ---- the replay is a course
+abbrev pub replayOf : Case → Course
+replayOf c = record { setup = setupIn c; released = releasedAt c; works = ranAt c }
 
-module _ (c : Case) (i a : ℕ) (s : Sole c i a) where
-  -- the finish and the demotion in the first n slots from the release
-  abbrev fin : ℕ → ℕ
-  fin n = firstIn (λ t. finishedAt c t i) a n
+replay-next : (c : Case) (t : ℕ) → worked (ranAt c t) (opened (setupIn c) t (releasedAt c t) (stateAt c t)) ≡ stateAt c (suc t)
+unfolding after ranAt ran
+replay-next c t = sym (state-next c t)
 
-  abbrev dem : ℕ → ℕ
-  dem n = firstIn (λ t. demotedAt c t i) a n
+pub replay-state : (c : Case) (t : ℕ) → stateIn (replayOf c) t ≡ stateAt c t
+unfolding stateIn stateAt stateFrom
+replay-state c zero = refl
+replay-state c (suc t) = ap (λ (r : Run). worked (ranAt c t) (opened (setupIn c) t (releasedAt c t) r)) (replay-state c t) ∙ replay-next c t
 
-  abbrev due : ℕ
-  due = a + deadline (c .table) i
+pub replay-demoted : (c : Case) (t i : ℕ) → demotedIn (replayOf c) t i ≡ demotedAt c t i
+unfolding demotedIn demotedAt
+replay-demoted c t i = rw (replay-state c t)
 
-  -- from the readied job of slot a + n to the state after it
-  step : (n : ℕ) → Stand (fin n) (dem n) due (readyAt c (a + n) i) → Stand (fin (suc n)) (dem (suc n)) due (jobAt (stateAt c (suc (a + n))) i)
-  unfolding firstIn
-  step n h =
-      let z = s .task in
-      rw (finished-at c i z (a + n), demoted-at c i z (a + n), next-at c i z (a + n))
-      (slot-stand (isCf (setupIn c)) (lowers (setupIn c) (a + n) (releasedAt c (a + n)) (stateAt c (a + n))) (ranAt c (a + n) i) (fin n) (dem n) due (a + n) (readyAt c (a + n) i) (ran-present c i z (a + n)) h)
+pub replay-finished : (c : Case) (t i : ℕ) → finishedIn (replayOf c) t i ≡ finishedAt c t i
+unfolding finishedIn finishedAt finished ranAt ran chosen
+replay-finished c t i = rw (replay-state c t) (once (present (opened (setupIn c) t (releasedAt c t) (stateAt c t)) i) _ _)
+  where
+    once : (p w b : Bool) → (p && (p && w) && b) ≡ (p && w && b)
+    once true w b = refl
+    once false w b = refl
 
-  -- where nothing is released and nothing is due, what stood still stands
-  not-due : (f d t : ℕ) (j : Job) → t < due → Stand f d due j → Stand f d due (judgedJob t j)
-  not-due f d t j h (inl (e, v)) =
-      let n : eqb (dueOf j) t ≡ false = ne-eqb (dueOf j) t (λ q. omega (arith, v .its)) in
-      rw (v .there, n) (inl (e, v))
-  not-due f d t j h (inr (p, e)) = rw e (inr (p, refl))
+-- so the job of a release that is the only one of its task until its deadline stands as in a course
+module _ (c : Case) (i a : ℕ) (s : Sole (replayOf c) i a) where
+  same-finishes : _≡_ {A = ℕ → Bool} (λ t. finishedIn (replayOf c) t i) (λ t. finishedAt c t i)
+  same-finishes = fun-ext (λ t. replay-finished c t i)
 
-  -- how the job stands after steps 1 and 2 of each of its slots
-  pub ready : (n : ℕ) → n < deadline (c .table) i → Stand (fin n) (dem n) due (readyAt c (a + n) i)
-  unfolding firstIn
-  ready zero h = rw (add-zero a, s .released) (inl (refl, record { there = refl; its = refl; lowly = refl }))
-  ready (suc n) h =
-      rw (add-suc a n, s .alone (suc (a + n)) (omega arith) (omega arith))
-      (not-due (fin (suc n)) (dem (suc n)) (suc (a + n)) _ (omega arith) (step n (ready n (omega arith))))
+  same-demotions : _≡_ {A = ℕ → Bool} (λ t. demotedIn (replayOf c) t i) (λ t. demotedAt c t i)
+  same-demotions = fun-ext (λ t. replay-demoted c t i)
+
+  -- after steps 1 and 2 of each of its slots
+  pub ready : (n : ℕ) → n < deadline (c .table) i
+      → Stand (firstIn (λ t. finishedAt c t i) a n) (firstIn (λ t. demotedAt c t i) a n) (a + deadline (c .table) i) (readyAt c (a + n) i)
+  ready n h = rw (same-finishes, same-demotions, replay-state c (a + n)) at (found-stands (replayOf c) i a s n h)
 
   -- and before step 1 of each time after its release, its deadline included
-  pub stands : (n : ℕ) → n < deadline (c .table) i → Stand (fin (suc n)) (dem (suc n)) due (jobAt (stateAt c (suc (a + n))) i)
-  stands n h = step n (ready n h)
+  pub stands : (n : ℕ) → n < deadline (c .table) i
+      → Stand (firstIn (λ t. finishedAt c t i) a (suc n)) (firstIn (λ t. demotedAt c t i) a (suc n)) (a + deadline (c .table) i) (jobAt (stateAt c (suc (a + n))) i)
+  stands n h = rw (same-finishes, same-demotions, replay-state c (suc (a + n))) at (left-stands (replayOf c) i a s n h)
 
 -- going l + k slots is going l, then k
 pub state-split : (g : Setup) (s : ℕ → TaskSet) (a : ℕ) (r : Run) (l k : ℕ) → stateFrom g s a r (l + k) ≡ stateFrom g s (a + l) (stateFrom g s a r l) k

@@ -94,7 +94,7 @@ module _ (i : ℕ) (l : i < 32) where
   each-at : (f : ℕ → Task → Task) (r : Run) → Full r → getD (eachTask f r .tasks) i noTask ≡ f i (getD (r .tasks) i noTask)
   each-at f r h = mapAt-at f (r .tasks) i noTask (omega arith)
 
-  judged-at : (now : ℕ) (r : Run) → Full r → jobAt (judged now r) i ≡ judgedJob now (jobAt r i)
+  pub judged-at : (now : ℕ) (r : Run) → Full r → jobAt (judged now r) i ≡ judgedJob now (jobAt r i)
   unfolding judged
   judged-at now r h = ap (λ (t : Task). t .job) (each-at (λ i t. judgedTask now t) r h) ∙ judged-job now (getD (r .tasks) i noTask)
 
@@ -121,9 +121,13 @@ module _ (i : ℕ) (l : i < 32) where
       pick-run (lowers g now s r) (eachTask (λ i t. loweredTask t) d) d i ∙
       ap₂ (pick (lowers g now s r)) (ap (λ (t : Task). t .job) (each-at (λ i t. loweredTask t) _ (demoted-full g _ f)) ∙ ap loweredJob e) e
 
+  pub worked-at : (s : TaskSet) (r : Run) → Full r → jobAt (worked s r) i ≡ pick (s i) (workedJob (jobAt r i)) (jobAt r i)
+  unfolding worked
+  worked-at s r h =
+      let t = getD (r .tasks) i noTask in
+      ap (λ (t : Task). t .job) (each-at (λ i t. pick (s i) (workedTask t) t) r h) ∙ pick-job (s i) (workedTask t) t
+
   pub after-at : (g : Setup) (now : ℕ) (s : TaskSet) (r : Run) → Full r
       → jobAt (after g now s r) i ≡ pick (ran g now s r i) (workedJob (jobAt (opened g now s r) i)) (jobAt (opened g now s r) i)
-  unfolding after worked ran
-  after-at g now s r h =
-      ap (λ (t : Task). t .job) (each-at (λ i t. pick (chosen g now (opened g now s r) i) (workedTask t) t) _ (opened-full g now s r h)) ∙
-      (let t = getD (opened g now s r .tasks) i noTask in pick-job (chosen g now (opened g now s r) i) (workedTask t) t)
+  unfolding after ran
+  after-at g now s r h = worked-at (chosen g now (opened g now s r)) (opened g now s r) (opened-full g now s r h)

@@ -194,43 +194,44 @@ fn call_counts(input: &[u8], from: usize, table: &mut [u32], room: &mut [u32]) -
     lent.next
 }
 
-fn call_replay(
+// The replay, the running set or the writer, by its number, with the case that the input has here.
+fn call_case(
+    which: u32,
     input: &[u8],
     from: usize,
     table: &mut [u32],
     trace: &mut [u32],
     room: &mut [u32],
+    bytes: &mut [u8],
 ) -> usize {
     let c = take_case(input, from, table, trace);
-    let lent = take_numbers(input, c.next, room);
     let n = c.rows;
     let r = c.jobs;
+    match which {
+        2 => call_replay(input, c, &table[0..n], &trace[0..r], room),
+        3 => call_running(input, c, &table[0..n], &trace[0..r]),
+        _ => call_write(input, c, &table[0..n], &trace[0..r], bytes),
+    }
+}
+
+fn call_replay(input: &[u8], c: Case, table: &[u32], trace: &[u32], room: &mut [u32]) -> usize {
+    let lent = take_numbers(input, c.next, room);
     let k = lent.count;
-    show::show_replay(
-        c.procs,
-        c.policy,
-        &table[0..n],
-        c.end,
-        &trace[0..r],
-        &mut room[0..k],
-    );
+    show::show_replay(c.procs, c.policy, table, c.end, trace, &mut room[0..k]);
     lent.next
 }
 
-fn call_running(input: &[u8], from: usize, table: &mut [u32], trace: &mut [u32]) -> usize {
-    let c = take_case(input, from, table, trace);
+fn call_running(input: &[u8], c: Case, table: &[u32], trace: &[u32]) -> usize {
     let slot = number_at(input, c.next);
-    let n = c.rows;
-    let r = c.jobs;
-    show::show_running(
-        c.procs,
-        c.policy,
-        &table[0..n],
-        c.end,
-        &trace[0..r],
-        slot.value,
-    );
+    show::show_running(c.procs, c.policy, table, c.end, trace, slot.value);
     slot.next
+}
+
+fn call_write(input: &[u8], c: Case, table: &[u32], trace: &[u32], bytes: &mut [u8]) -> usize {
+    let lent = take_bytes(input, c.next, bytes);
+    let k = lent.count;
+    show::show_write(c.procs, c.policy, table, c.end, trace, &mut bytes[0..k]);
+    lent.next
 }
 
 fn call_read(input: &[u8], from: usize, tasks: &mut [u32], releases: &mut [u32]) -> usize {
@@ -243,29 +244,6 @@ fn call_read(input: &[u8], from: usize, tasks: &mut [u32], releases: &mut [u32])
     let r = jobs.count;
     show::show_read(&input[start..end], &mut tasks[0..n], &mut releases[0..r]);
     jobs.next
-}
-
-fn call_write(
-    input: &[u8],
-    from: usize,
-    table: &mut [u32],
-    trace: &mut [u32],
-    room: &mut [u8],
-) -> usize {
-    let c = take_case(input, from, table, trace);
-    let lent = take_bytes(input, c.next, room);
-    let n = c.rows;
-    let r = c.jobs;
-    let k = lent.count;
-    show::show_write(
-        c.procs,
-        c.policy,
-        &table[0..n],
-        c.end,
-        &trace[0..r],
-        &mut room[0..k],
-    );
-    lent.next
 }
 
 // Any other number, and the empty one of an empty line, names no call and is passed over.
@@ -282,10 +260,8 @@ fn call_at(
     let which = kind.value;
     match which {
         1 => call_counts(input, next, table, room),
-        2 => call_replay(input, next, table, trace, room),
-        3 => call_running(input, next, table, trace),
         4 => call_read(input, next, table, trace),
-        5 => call_write(input, next, table, trace, bytes),
+        2 | 3 | 5 => call_case(which, input, next, table, trace, room, bytes),
         _ => next,
     }
 }

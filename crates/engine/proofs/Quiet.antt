@@ -1,6 +1,6 @@
 -- A slot with nothing present and nothing released leaves everything as it is.
 use mathlib.Core.Path.{_≡_, refl, ap, sym, _∙_}
-use mathlib.Core.Bool.{Bool, true, false, _&&_, true≢false}
+use mathlib.Core.Bool.{Bool, true, false, _&&_}
 use mathlib.Core.Logic.{_⊎_, inl, inr}
 use mathlib.Core.List.{List}
 use Prim.Native.Nat.{ℕ, zero, suc, _+_, _-_, _≤_, _<_}
@@ -8,8 +8,7 @@ use native.Mathlib.Nat.{eq-or-lt-of-le, zero-add}
 use native.Mathlib.Decide.{decLe}
 use native.Mathlib.Omega.{arith}
 use lib.ListN.{getD}
-use Rattle.rules.specs.declared.Job.{Job}
-use Rattle.rules.specs.declared.Job.the-variants.{Idle, Normal, Demoted}
+use Rattle.rules.specs.declared.Job.the-variants.{Idle}
 use Rattle.rules.specs.declared.Task.{Task}
 use Rattle.rules.specs.declared.Run.{Run}
 use Rattle.rules.specs.Words.{pick, bit, sum, countIn, tab}
@@ -18,18 +17,13 @@ use Rattle.rules.specs.Slot.{Setup, TaskSet, noTask, runOf, withJob, jobAt, isP
 use Rattle.rules.specs.Replay.{setupIn, releasedAt, stateAt, ranAt, recordBy}
 use Rattle.bridge.specs.Lists.{tab-cong}
 use Rattle.bridge.specs.Steps.{Full, demotedJob, readied-at, demoted-at, readied-full, lowers}
-use Rattle.bridge.specs.Jobs.{kept-demoted, kept-opened}
+use Rattle.bridge.specs.Jobs.{kept-demoted, kept-opened, idle-now}
 use Rattle.bridge.specs.Stands.{state-full, state-next, readyAt, openAt, ran-present, next-at}
 use Rattle.bridge.specs.Legal.{Legal}
 use Rattle.bridge.specs.Records.{taskAt, released-no}
 use Rattle.bridge.specs.Turn.{Reached, turn-idle}
 use Rattle.bridge.specs.Fuse.{keep-all, same-each}
 use Rattle.engine.specs.Walks.{Walking, Rests}
-
-absent-idle : (j : Job) → isPresent j ≡ false → j ≡ Idle
-absent-idle Idle e = refl
-absent-idle (Normal l f d) e = absurd (true≢false e)
-absent-idle (Demoted l d) e = absurd (true≢false e)
 
 -- where none of the first n passes, none of them does
 none-counted : (p : ℕ → Bool) (n i : ℕ) → countIn p 0 n ≡ 0 → i < n → p i ≡ false
@@ -105,7 +99,7 @@ module _ (c : Case) (t : ℕ) (n : jobsNow (demoted (setupIn c) (readied (setupI
       let d = demoted-at i l (setupIn c) R (readied-full _ _ _ _ full) ∙ ap (demotedJob (isCf (setupIn c))) (readied-at i l (setupIn c) t (releasedAt c t) (stateAt c t) full) in
       let x : isPresent (readyAt c t i) ≡ false = sym (kept-demoted (isCf (setupIn c)) (readyAt c t i) .there) ∙ sym (ap isPresent d) ∙ a in
       let o : isPresent (openAt c t i) ≡ false = kept-opened (isCf (setupIn c)) (lowers (setupIn c) t (releasedAt c t) (stateAt c t)) (readyAt c t i) .there ∙ x in
-      next-at c i l t ∙ rw (ran-present c i l t o) (absent-idle (openAt c t i) o)
+      next-at c i l t ∙ rw (ran-present c i l t o) (idle-now (openAt c t i) o)
 
 module _ (c : Case) (g : Legal c) (t : ℕ) (run : Run) (place : List ℕ) (next jobs : ℕ) (v : Walking c t run place next jobs) (r : Rests (c .trace) next jobs t) where
   after-now : (j : ℕ) → next ≤ j → j < releaseCount (c .trace) → suc t ≤ timeOf (c .trace) j

@@ -11,9 +11,10 @@ use Rattle.rules.specs.Refusals.{unless}
 use Rattle.rules.specs.Reader.{kindOf, mayStop, linesOf, linesFault, withLines, caseIn}
 use Rattle.rules.specs.declared.Fault.{Fault}
 use Rattle.rules.specs.declared.Line.{Line}
+use Rattle.roundtrip.specs.LinesOf.{linesOf-nil}
 use Rattle.lines.specs.declared.Head.{Head}
 use Rattle.lines.specs.Held.{tableRoom, traceRoom, clip, lineFault, nextSays, noHead, headWith, rowNumbers, releaseNumbers, Whole, Added, keptCase, Gathers}
-use Rattle.lines.proofs.Unread.{lines-none, lines-next}
+use Rattle.lines.proofs.Unread.{lines-next}
 use Rattle.lines.proofs.Faults.{fault-here, fault-later, fault-stop}
 use Rattle.lines.proofs.Keeps.{kept-line, kept-none, kept-all}
 
@@ -81,7 +82,7 @@ module _ (s : List ℕ) (h : Head) (t r b n at : ℕ) (table trace : List ℕ) (
   -- no line is left
   pub reading-all : (f : Fault) → length s ≤ at → f ≡ unless (mayStop b) 3 n → Gathers s (record { fault = f; head = h; tasks = t; releases = r }) table trace
   reading-all f l p =
-      let z : linesOf (drop at s) ≡ [] = ap linesOf (drop-of-length-le s l) ∙ lines-none in
+      let z : linesOf (drop at s) ≡ [] = ap linesOf (drop-of-length-le s l) ∙ linesOf-nil in
       record {
         fault = p ∙ sym (w .fault ∙ ap (linesFault b n) z ∙ fault-stop b n);
         kept = λ q. w .kept ∙ ap (λ (ls : List Line). clip (withLines (keptCase h t table r trace) ls)) z ∙ kept-all h t r table trace (w .tasks .within) (w .releases .within);

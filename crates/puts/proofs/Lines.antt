@@ -11,8 +11,8 @@ use lib.Seq.{take-suc}
 use Rattle.rules.specs.Words.{pick}
 use Rattle.rules.specs.Text.{digitsOf, policyName, edfWord, edfCfWord}
 use Rattle.rules.specs.Writer.{moreFields, lineText}
+use Rattle.roundtrip.specs.Digits.{at-most-ten}
 use Rattle.puts.specs.Fields.{fieldsText, numberFields}
-use Rattle.puts.proofs.Digits.{at-most-ten}
 
 -- fields, and behind them those that end the line
 pub fields-then : (b : ℕ) (ss ts : List (List ℕ)) → fieldsText b ss ++ moreFields b ts ≡ moreFields b (ss ++ ts)

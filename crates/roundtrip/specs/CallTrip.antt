@@ -1,51 +1,23 @@
 -- The round trip (document 01, "The case text") in the words of the public calls: what the reader answers to what the writer wrote, and
 -- what the writer writes of what the reader read. Asked is only that the first call gave a result and that the second has room.
-use mathlib.Core.Path.{_≡_, refl, sym, ap, ap₂, _∙_, subst}
-use mathlib.Core.Bool.{Bool, true, false, false≢true}
+use mathlib.Core.Path.{_≡_, sym, ap, ap₂, _∙_, subst}
 use mathlib.Core.List.{List, [], _∷_, _++_}
 use Prim.Native.Nat.{ℕ, _+_, _*_, _≤_}
 use native.Mathlib.Omega.{arith}
-use lib.Dec.{eqb}
 use lib.ListN.{length, getD, take, drop}
-use lib.Seq.{take-append-seam}
-use borrow.Author.Tests.{eqb-true, le-leb}
-use Rattle.rules.specs.Words.{pick}
+use borrow.Author.Tests.{le-leb}
 use Rattle.rules.specs.declared.Fault.{Fault}
 use Rattle.rules.specs.Limits.{maxTasks, maxReleases, maxText, taskWidth, releaseWidth}
 use Rattle.rules.specs.Case.{Case, caseOf, taskCount, releaseCount}
 use Rattle.rules.specs.Refusals.{orNext, roomFault, caseFault, Accepted}
-use Rattle.rules.specs.Answers.{Answer, refusal, result, settled, kept}
+use Rattle.rules.specs.Answers.{result}
 use Rattle.rules.specs.Reader.{caseIn, textFault, readFault, caseValues, readAnswer, readTasks, readReleases}
 use Rattle.rules.specs.Writer.{caseText, writeFault, writeAnswer, writeBytes}
-use Rattle.bridge.specs.Legal.{next-clear}
-use Rattle.roundtrip.specs.CaseLines.{Whole, accepted-whole, text-fits}
+use Rattle.bridge.specs.Lists.{take-first}
+use Rattle.bridge.specs.Legal.{next-clear, Legal, legal}
+use Rattle.bridge.specs.Settled.{settled-clear, kept-new, settled-result}
+use Rattle.roundtrip.specs.CaseLines.{text-fits}
 use Rattle.roundtrip.specs.RoundTrip.{case-written, no-fault-written, withPolicy, text-read, case-accepted}
-
--- ---- answers
-abbrev isResult : Answer → Bool
-isResult (refusal n p) = false
-isResult (result vs) = true
-
-abbrev resultOf : Answer → List ℕ
-resultOf (refusal n p) = []
-resultOf (result vs) = vs
-
--- a call that gives a result found no fault, and these are its values
-settled-result : (f : Fault) (vs ws : List ℕ) → settled f vs ≡ result ws → (f .number ≡ 0) × (vs ≡ ws)
-unfolding settled
-settled-result f vs ws h = go (eqb (f .number) 0) refl h
-  where
-    go : (b : Bool) → eqb (f .number) 0 ≡ b → pick b (result vs) (refusal (f .number) (f .place)) ≡ result ws → (f .number ≡ 0) × (vs ≡ ws)
-    go true q e = (eqb-true _ _ q, ap resultOf e)
-    go false q e = absurd (false≢true (ap isResult e))
-
-settled-clear : (f : Fault) (vs : List ℕ) → f .number ≡ 0 → settled f vs ≡ result vs
-unfolding settled
-settled-clear f vs e = rw e
-
-kept-clear : (f : Fault) (new old : List ℕ) → f .number ≡ 0 → kept f new old ≡ new
-unfolding kept
-kept-clear f new old e = rw e
 
 -- ---- the case that a caller has in hand after reading: the values of the answer, and as many numbers of the two rooms
 unfoldable pub inHand : List ℕ → List ℕ → List ℕ → Case
@@ -65,16 +37,14 @@ pub record WrittenAs (c : Case) (room s : List ℕ) : Type 0 where
   pub bytes : writeBytes c room ≡ s ++ drop (length s) room
 
 -- ---- one call
-take-first : (n : ℕ) (xs ys : List ℕ) → n ≡ length xs → take n (xs ++ ys) ≡ xs
-take-first n xs ys e = rw e (take-append-seam xs ys)
-
-read-as : (s tasks releases : List ℕ) → readFault s (length tasks) (length releases) .number ≡ 0 → Whole (caseIn s) → ReadAs s tasks releases (caseIn s)
+-- what it leaves in its rooms is the case of the text
+pub read-as : (s tasks releases : List ℕ) → readFault s (length tasks) (length releases) .number ≡ 0 → Legal (caseIn s) → ReadAs s tasks releases (caseIn s)
 unfolding readAnswer readTasks readReleases inHand caseValues
 read-as s tasks releases h w =
     let c = caseIn s in
     let f = readFault s (length tasks) (length releases) in
-    let a : readTasks s tasks releases ≡ c .table ++ drop (length (c .table)) tasks = kept-clear f _ _ h in
-    let b : readReleases s tasks releases ≡ c .trace ++ drop (length (c .trace)) releases = kept-clear f _ _ h in
+    let a : readTasks s tasks releases ≡ c .table ++ drop (length (c .table)) tasks = kept-new f _ _ h in
+    let b : readReleases s tasks releases ≡ c .trace ++ drop (length (c .trace)) releases = kept-new f _ _ h in
     record {
       answer = settled-clear f _ h;
       tasks-after = a;
@@ -86,16 +56,16 @@ read-as s tasks releases h w =
 
 written-as : (c : Case) (room : List ℕ) → writeFault c (length room) .number ≡ 0 → WrittenAs c room (caseText c)
 unfolding writeAnswer writeBytes
-written-as c room h = record { answer = settled-clear (writeFault c (length room)) _ h; bytes = kept-clear (writeFault c (length room)) _ _ h }
+written-as c room h = record { answer = settled-clear (writeFault c (length room)) _ h; bytes = kept-new (writeFault c (length room)) _ _ h }
 
 read-clear : (s tasks releases : List ℕ) → textFault s .number ≡ 0 → maxTasks * taskWidth ≤ length tasks → maxReleases * releaseWidth ≤ length releases
     → readFault s (length tasks) (length releases) .number ≡ 0
 unfolding readFault roomFault orNext
 read-clear s tasks releases h p q = rw (le-leb (maxTasks * taskWidth) (length tasks) p, le-leb (maxReleases * releaseWidth) (length releases) q, h)
 
-write-clear : (c : Case) (room : List ℕ) → Accepted c → length (caseText c) ≤ length room → writeFault c (length room) .number ≡ 0
+pub write-clear : (c : Case) (room : ℕ) → Accepted c → length (caseText c) ≤ room → writeFault c room .number ≡ 0
 unfolding writeFault roomFault orNext Accepted
-write-clear c room h p = rw (h, le-leb (length (caseText c)) (length room) p)
+write-clear c room h p = rw (h, le-leb (length (caseText c)) room p)
 
 -- ---- both calls
 -- reading what the writer wrote gives the same case
@@ -111,7 +81,7 @@ read-what-was-written c room n tasks releases h p q =
     let text : take n (writeBytes c room) ≡ caseText c = ap (take n) (written-as c room (a .0) .bytes) ∙ take-first n (caseText c) _ (sym (ap (λ l. getD l 0 0) (a .1))) in
     let same = case-written c e in
     rw text (subst (ReadAs (caseText c) tasks releases) same
-    (read-as (caseText c) tasks releases (read-clear (caseText c) tasks releases (ap (λ (f : Fault). f .number) (no-fault-written c e)) p q) (rw same (accepted-whole c e))))
+    (read-as (caseText c) tasks releases (read-clear (caseText c) tasks releases (ap (λ (f : Fault). f .number) (no-fault-written c e)) p q) (rw same (legal c e))))
 
 -- what a text with its policy line takes up: a room of 60,000 bytes is always enough
 pub with-policy-fits : (s : List ℕ) → textFault s .number ≡ 0 → length (withPolicy s) ≤ maxText
@@ -131,5 +101,5 @@ written-what-was-read s tasks releases vs room h p =
     let e = case-accepted s clear in
     let text = text-read s clear in
     let hand : inHand vs (readTasks s tasks releases) (readReleases s tasks releases) ≡ caseIn s =
-    ap (λ l. inHand l (readTasks s tasks releases) (readReleases s tasks releases)) (sym (a .1)) ∙ read-as s tasks releases (a .0) (accepted-whole (caseIn s) e) .in-hand in
-    rw hand (subst (WrittenAs (caseIn s) room) text (written-as (caseIn s) room (write-clear (caseIn s) room e (rw text p))))
+    ap (λ l. inHand l (readTasks s tasks releases) (readReleases s tasks releases)) (sym (a .1)) ∙ read-as s tasks releases (a .0) (legal (caseIn s) e) .in-hand in
+    rw hand (subst (WrittenAs (caseIn s) room) text (written-as (caseIn s) room (write-clear (caseIn s) (length room) e (rw text p))))

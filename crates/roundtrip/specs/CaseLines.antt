@@ -1,23 +1,20 @@
 -- The lines of a case: they are what the writer writes (`caseText`), they hold the case (`withLines`), and of an accepted case they are in
 -- order, read as they are written and fit into 60,000 bytes. RoundTrip puts these together; the program cites the last.
 use mathlib.Core.Path.{_≡_, refl, sym, ap, ap₂, _∙_}
-use mathlib.Core.Bool.{true, _&&_}
 use mathlib.Core.List.{List, [], _∷_, _++_}
-use Prim.Native.Nat.{ℕ, zero, suc, _+_, _%_, _^_, _≤_, _<_}
+use Prim.Native.Nat.{ℕ, zero, suc, _+_, _^_, _≤_, _<_}
 use native.Mathlib.Omega.{arith}
-use lib.Dec.{eqb, leb}
 use lib.ListN.{length, length-append}
-use borrow.Author.Tests.{eqb-true, leb-true}
 use Rattle.rules.specs.Words.{tab}
 use Rattle.rules.specs.declared.Line.{Line}
 use Rattle.rules.specs.declared.Line.the-variants.{Procs, Policy, End}
-use Rattle.rules.specs.Limits.{maxText, taskWidth, releaseWidth}
+use Rattle.rules.specs.Limits.{maxText}
 use Rattle.rules.specs.Case.{Case, caseOf, taskCount, releaseCount}
-use Rattle.rules.specs.Refusals.{noFault, procsFault, policyFault, tableFault, tasksFault, endFault, traceFault, caseFault, Accepted}
+use Rattle.rules.specs.Refusals.{noFault, Accepted}
 use Rattle.rules.specs.Reader.{linesFault, noCase, withLine, withLines}
 use Rattle.rules.specs.Writer.{procsText, policyText, taskText, endText, releaseText, caseText}
 use Rattle.bridge.specs.Lists.{tab-long}
-use Rattle.bridge.specs.Legal.{and-left, and-right, unless-clear, next-clear, Legal, legal}
+use Rattle.bridge.specs.Legal.{Legal, legal}
 use Rattle.roundtrip.specs.Fields.{All}
 use Rattle.roundtrip.specs.LineTrip.{wordOf, fieldsIn, lineBytes, Below}
 use Rattle.roundtrip.specs.Lines.{textOf, textOf-append, textOf-tab}
@@ -46,38 +43,13 @@ case-text c =
     ∙ sym (textOf-append rows (End (c .end) ∷ releases)))
 
 -- ---- the lines of a case hold the case
--- task numbers in threes and release numbers in twos
-pub record Whole (c : Case) : Type 0 where
-  pub threes : length (c .table) % taskWidth ≡ 0
-  pub some : 1 ≤ taskCount (c .table)
-  pub twos : length (c .trace) % releaseWidth ≡ 0
-
-pub accepted-whole : (c : Case) → Accepted c → Whole c
-unfolding Accepted caseFault tableFault traceFault
-accepted-whole c e =
-    let k = taskCount (c .table) in
-    let f1 = next-clear (procsFault (c .procs)) _ e in
-    let f2 = next-clear (policyFault (c .policy)) _ (f1 .1) in
-    let f3 = next-clear (tableFault (c .table)) _ (f2 .1) in
-    let f4 = next-clear (tasksFault (c .table)) _ (f3 .1) in
-    let f5 = next-clear (endFault (c .end)) _ (f4 .1) in
-    let f6 = next-clear (traceFault (c .trace)) _ (f5 .1) in
-    let t : (eqb (length (c .table) % 3) 0 && leb 1 k && leb k 32) ≡ true = unless-clear _ 5 0 (omega arith) (f3 .0) in
-    let u : (eqb (length (c .table) % 3) 0 && leb 1 k) ≡ true = and-left _ (leb k 32) t in
-    let r : (eqb (length (c .trace) % 2) 0 && leb (releaseCount (c .trace)) 2000) ≡ true = unless-clear _ 12 0 (omega arith) (f6 .0) in
-    record {
-      threes = eqb-true _ 0 (and-left _ (leb 1 k) u);
-      some = leb-true 1 k (and-right (eqb (length (c .table) % 3) 0) (leb 1 k) u);
-      twos = eqb-true _ 0 (and-left (eqb (length (c .trace) % 2) 0) _ r);
-    }
-
 rows-kind : (ts : List ℕ) → All (Kind 3) (rowLines ts)
 rows-kind ts = kinds-tab 3 3 rowAt rows-list ts 0 (taskCount ts)
 
 releases-kind : (rs : List ℕ) → All (Kind 5) (releaseLines rs)
 releases-kind rs = kinds-tab 5 2 releaseAt releases-list rs 0 (releaseCount rs)
 
-pub lines-hold : (c : Case) → Whole c → withLines noCase (caseLines c) ≡ c
+pub lines-hold : (c : Case) → Legal c → withLines noCase (caseLines c) ≡ c
 unfolding withLines withLine caseLines
 lines-hold c w =
     lines-taken (c .procs) (c .policy) (rowLines (c .table)) (c .end) (releaseLines (c .trace)) (rows-kind (c .table)) (releases-kind (c .trace))
@@ -127,9 +99,9 @@ lines-below c g =
     (omega (arith, g .procs-few), (g .policy-known, all-append (Below (10 ^ 6)) (rowLines (c .table)) _ rows (omega (arith, g .end-small), releases)))
 
 -- its lines are in order
-lines-body : (c : Case) → Whole c → Body (rowLines (c .table) ++ (End (c .end) ∷ releaseLines (c .trace)))
+lines-body : (c : Case) → Legal c → Body (rowLines (c .table) ++ (End (c .end) ∷ releaseLines (c .trace)))
 unfolding tab
-lines-body c w = go (taskCount (c .table)) (w .some)
+lines-body c w = go (taskCount (c .table)) (w .tasks-some)
   where
     go : (n : ℕ) → 1 ≤ n → Body (tab (rowAt (c .table)) 0 n ++ (End (c .end) ∷ releaseLines (c .trace)))
     go zero h = absurd (omega arith)
@@ -148,7 +120,7 @@ lines-body c w = go (taskCount (c .table)) (w .some)
       whole = refl;
     }
 
-pub lines-clear : (c : Case) → Whole c → linesFault 0 1 (caseLines c) ≡ noFault
+pub lines-clear : (c : Case) → Legal c → linesFault 0 1 (caseLines c) ≡ noFault
 unfolding caseLines
 lines-clear c w = ordered-clear (c .procs) (c .policy) _ (lines-body c w)
 

@@ -104,6 +104,11 @@ pub digits-some : (n : ℕ) → 1 ≤ length (digitsOf n)
 unfolding digitsOf
 digits-some n = digits-shown 9 n .some
 
+-- a number of 32 bits has at most ten
+pub at-most-ten : (n : ℕ) → length (digitsOf n) ≤ 10
+unfolding digitsOf
+at-most-ten n = digits-shown 9 n .few
+
 pub all-digits : (n : ℕ) → allDigits (digitsOf n) ≡ true
 unfolding digitsOf
 all-digits n = digits-shown 9 n .digits
@@ -144,11 +149,11 @@ worth-below (b ∷ s) i v p h =
     let d = head-digit b s p in
     rw (add-suc, ← suc-add i (length s)) (worth-below s (suc i) (v * 10 + (b - 48)) (d .2) (rw pow-suc (omega arith)))
 
-digits-small : (n : ℕ) → n < 10 → digitsOf n ≡ (48 + n) ∷ []
+pub digits-small : (n : ℕ) → n < 10 → digitsOf n ≡ (48 + n) ∷ []
 unfolding digitsOf digitsIn
 digits-small n h = rw (lt-ltb n 10 h) (ap (λ (m : ℕ). (48 + m) ∷ []) (omega arith))
 
-digits-step : (n : ℕ) → 10 ≤ n → n < 10 ^ 9 → digitsOf n ≡ digitsOf (n / 10) ++ ((48 + n % 10) ∷ [])
+pub digits-step : (n : ℕ) → 10 ≤ n → n < 10 ^ 10 → digitsOf n ≡ digitsOf (n / 10) ++ ((48 + n % 10) ∷ [])
 unfolding digitsOf digitsIn
 digits-step n h l = rw (le-ltb n 10 h) (ap (λ (d : List ℕ). d ++ ((48 + n % 10) ∷ [])) (digits-room 8 (n / 10) (omega arith)))
 

@@ -22,7 +22,7 @@ use Rattle.bridge.specs.Legal.{next-clear, legal}
 use Rattle.roundtrip.specs.LineTrip.{wordOf, fieldsIn, lineBytes, body-kind}
 use Rattle.roundtrip.specs.Lines.{textOf, textOf-cons, lineOf-text, afterLine-text, lines-written, lines-read}
 use Rattle.roundtrip.specs.Orders.{all-said, body-tail, Ordered, ordered-of}
-use Rattle.roundtrip.specs.CaseLines.{caseLines, case-text, accepted-whole, lines-hold, lines-held, lines-below, lines-clear, text-fits}
+use Rattle.roundtrip.specs.CaseLines.{caseLines, case-text, lines-hold, lines-held, lines-below, lines-clear, text-fits}
 
 -- ---- reading what the writer wrote
 -- the lines of what is written of an accepted case
@@ -32,13 +32,13 @@ written-lines c e = ap linesOf (case-text c) ∙ lines-written (10 ^ 6) (caseLin
 -- the same case
 pub case-written : (c : Case) → Accepted c → caseIn (caseText c) ≡ c
 unfolding caseIn
-case-written c e = ap (withLines noCase) (written-lines c e) ∙ lines-hold c (accepted-whole c e)
+case-written c e = ap (withLines noCase) (written-lines c e) ∙ lines-hold c (legal c e)
 
 -- the reader finds no fault in it
 pub no-fault-written : (c : Case) → Accepted c → textFault (caseText c) ≡ noFault
 unfolding textFault lengthFault orNext Accepted
 no-fault-written c e =
-    rw (le-leb (length (caseText c)) maxText (text-fits c e), written-lines c e, lines-clear c (accepted-whole c e), case-written c e, e)
+    rw (le-leb (length (caseText c)) maxText (text-fits c e), written-lines c e, lines-clear c (legal c e), case-written c e, e)
 
 -- ---- writing what was read
 -- whether the second line of a text is a policy line

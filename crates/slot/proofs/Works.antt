@@ -14,11 +14,11 @@ use Rattle.rules.specs.declared.Task.{Task}
 use Rattle.rules.specs.declared.Run.{Run}
 use Rattle.bridge.specs.Lists.{mapAt-at, tab-cong}
 use Rattle.bridge.specs.Steps.{Full}
+use Rattle.bridge.specs.Jobs.{idle-now}
 use Rattle.bridge.specs.Fill.{Filling, filling-at, each-none, each-store, each-keep, filling-all}
 use Rattle.slot.specs.Queues.{Keyed}
 use Rattle.slot.specs.Passes.{endedTask, runsBy, Works}
 use Rattle.slot.proofs.Marks.{nobody, Marking, mark-none, mark-store, mark-keep, mark-all}
-use Rattle.slot.proofs.Stirs.{idle-job}
 
 module _ (policy now : ℕ) (calm : Bool) (limit : ℕ) where
   abbrev pub ranIn : Run → TaskSet
@@ -75,7 +75,7 @@ module _ (policy now : ℕ) (calm : Bool) (limit : ℕ) where
     -- no job
     pub work-keep : isPresent (getD ts i noTask .job) ≡ false → Working r ts rs fs ls (i + 1)
     work-keep e =
-        let j : getD ts i noTask .job ≡ Idle = idle-job (getD ts i noTask .job) e in
+        let j : getD ts i noTask .job ≡ Idle = idle-now (getD ts i noTask .job) e in
         record {
           full = w .full;
           tasks = each-keep workTask 32 (r .tasks) ts i noTask l (w .tasks) (still calm (getD ts i noTask) j);

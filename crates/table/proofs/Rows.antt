@@ -12,6 +12,7 @@ use Rattle.rules.specs.Case.{caseOf, taskCount, releaseCount}
 use Rattle.rules.specs.Refusals.{orNext, procsFault, roomFault, countsFault, tableFault, taskFault, tasksFault, endFault, traceFault}
 use Rattle.rules.specs.Limits.{maxEnd}
 use Rattle.bridge.specs.Firsts.{next-none, next-some}
+use Rattle.bridge.specs.Settled.{clear}
 use Rattle.bridge.specs.Legal.{and-right, unless-clear, next-clear, firstOf-clear, clear-good}
 use Rattle.table.specs.Needs.{Sound}
 
@@ -19,10 +20,7 @@ pub stop : (x f r : Fault) → x ≡ f → (x .number ≡ 0 → ⊥) → x ≡ o
 stop x f r e h = e ∙ sym (next-some f r (λ q. h (ap (λ (u : Fault). u .number) e ∙ q)))
 
 pub skip : (x f r : Fault) → x ≡ f → x .number ≡ 0 → r ≡ orNext f r
-skip x f r e h = sym (next-none f r (ap (λ (u : Fault). u .number) (sym e) ∙ h))
-
-clear : (x f : Fault) → x ≡ f → x .number ≡ 0 → f .number ≡ 0
-clear x f e h = ap (λ (u : Fault). u .number) (sym e) ∙ h
+skip x f r e h = sym (next-none f r (clear x f e h))
 
 pub few-tasks : (ts : List ℕ) (x : Fault) → x ≡ tableFault ts → x .number ≡ 0 → taskCount ts ≤ 32
 unfolding tableFault

@@ -14,12 +14,14 @@ use Rattle.rules.specs.Counts.{freeCount}
 use Rattle.rules.specs.Refusals.{orNext, procsFault, policyFault, caseFault, Accepted}
 use Rattle.rules.specs.Slot.{jobAt, isDemoted}
 use Rattle.rules.specs.Replay.{releasedIn, releasedAt, stateAt, slotsBy, finishBy, demotionBy}
+use Rattle.bridge.specs.Course.{Course, finishIn, demotionIn}
+use Rattle.bridge.specs.Stands.{replayOf, replay-state, replay-finished, replay-demoted}
 use Rattle.bridge.specs.Legal.{Legal, next-clear, and-left, and-right}
 use Rattle.bridge.specs.Firsts.{next-none}
 use Rattle.bridge.specs.Jobs.{Stand}
 use Rattle.bridge.specs.Records.{taskAt, sole}
 use Rattle.theory.specs.Counting.{first-cong}
-use Rattle.theory.specs.Course.{Course, Lawful, finishIn, demotionIn, replayOf, replay-state, replay-attends, replay-finished, replay-demoted}
+use Rattle.theory.specs.Lawful.{Lawful, replay-attends}
 use Rattle.theory.specs.Demoted.{Alone, at-deadline, none-demoted}
 use Rattle.theory.specs.Enough.{enough}
 
@@ -29,11 +31,9 @@ alone k g i a r =
     let h = g .named a i r in
     let m = g .good i h in
     record {
-      task = omega (arith, g .tasks-few);
+      sole = record { task = omega (arith, g .tasks-few); released = r; alone = λ u p q. free u p q (k .released u i) refl };
       some = m .some;
       lasts = omega (arith, m .some, m .fits);
-      released = r;
-      alone = λ u p q. free u p q (k .released u i) refl;
     }
   where
     free : (u : ℕ) → a < u → u < a + deadline (k .setup .table) i → (b : Bool) → k .released u i ≡ b → k .released u i ≡ false

@@ -16,10 +16,12 @@ use Rattle.rules.specs.Refusals.{Accepted}
 use Rattle.rules.specs.Slot.{jobAt, isPresent, isDemoted}
 use Rattle.rules.specs.Replay.{stateAt, contentionFreeAt, finishBy, demotionBy, verdictBy, verdictOf, recordBy}
 use Rattle.bridge.specs.Jobs.{Stand}
+use Rattle.bridge.specs.Course.{Course, contentionFreeIn, finishedIn, finishIn, demotionIn}
+use Rattle.bridge.specs.Stands.{replayOf}
 use Rattle.bridge.specs.Legal.{Legal, legal}
 use Rattle.bridge.specs.Records.{taskAt, sole}
 use Rattle.theory.specs.Counting.{count-cong, first-in}
-use Rattle.theory.specs.Course.{Course, Lawful, Attends, contentionFreeIn, finishedIn, finishIn, demotionIn, replayOf, replay-free, replay-attends}
+use Rattle.theory.specs.Lawful.{Lawful, Attends, replay-free, replay-attends}
 use Rattle.theory.specs.Enough.{enough}
 use Rattle.theory.specs.Story.{story, Attended, low-finishes}
 use Rattle.theory.specs.Demoted.{Alone, demoted-finishes}

@@ -6,34 +6,22 @@ use mathlib.Core.Logic.{inl, inr}
 use Prim.Native.Nat.{ℕ, suc, _+_, _-_, min, _≤_, _<_}
 use native.Mathlib.Omega.{arith}
 use lib.Dec.{eqb, leb}
-use lib.ListN.{getD}
 use borrow.Author.Tests.{le-leb, lt-leb, leb-true, leb-false, eq-eqb, eqb-true, ne-eqb}
 use Rattle.rules.specs.declared.Job.{Job}
-use Rattle.rules.specs.declared.Job.the-variants.{Idle}
-use Rattle.rules.specs.declared.Task.{Task}
-use Rattle.rules.specs.declared.Run.{Run}
 use Rattle.rules.specs.Words.{bit, countIn}
 use Rattle.rules.specs.Case.{Case, deadline, releaseCount, timeOf, nameOf}
-use Rattle.rules.specs.Slot.{noTask, jobAt, isPresent, dueOf, present, jobsNow, isMissed, withJob, judgedTask, judged, missed}
+use Rattle.rules.specs.Slot.{jobAt, isPresent, dueOf, present, jobsNow, isMissed, missed}
 use Rattle.rules.specs.Replay.{releasedAt, stateAt, closing, missedAt, slotsBy, finishBy, demotionBy, verdictOf, verdictBy, recordBy}
 use Rattle.bridge.specs.Sums.{sum-cong, sum-swap}
-use Rattle.bridge.specs.Lists.{mapAt-at}
-use Rattle.bridge.specs.Steps.{Full, judgedJob}
+use Rattle.bridge.specs.Steps.{judgedJob, judged-at}
 use Rattle.bridge.specs.Jobs.{Stand}
-use Rattle.bridge.specs.Stands.{state-full, stands}
+use Rattle.bridge.specs.Stands.{state-full, stands, replayOf, replay-state}
 use Rattle.bridge.specs.Legal.{Legal, and-left, and-right}
 use Rattle.bridge.specs.Records.{taskAt, good-at, sole}
 use Rattle.theory.specs.Counting.{and-both, count-none, count-only}
-use Rattle.theory.specs.Course.{replayOf, replay-state, pick-job}
 use Rattle.theory.specs.Enough.{From, judged-from, state-from}
 use Rattle.theory.specs.Accept.{lawful, released-some, stand-due}
 use Rattle.theory.specs.Verdicts.{missed-says, open-says}
-
-judged-at : (now : ℕ) (r : Run) (i : ℕ) → i < 32 → Full r → jobAt (judged now r) i ≡ judgedJob now (jobAt r i)
-unfolding judged
-judged-at now r i l h =
-    let x = getD (r .tasks) i noTask in
-    ap (λ (t : Task). t .job) (mapAt-at (λ i t. judgedTask now t) (r .tasks) i noTask (omega (arith, h))) ∙ pick-job (isMissed now (x .job)) (withJob x Idle) x
 
 -- ---- where the jobs of the states come from
 module _ (c : Case) (g : Legal c) (i : ℕ) (l : i < 32) where
@@ -49,7 +37,7 @@ module _ (c : Case) (g : Legal c) (i : ℕ) (l : i < 32) where
   -- what step 1 of the end leaves
   left-at : jobAt (closing c) i ≡ judgedJob (c .end) (jobAt (stateAt c (c .end)) i)
   unfolding closing
-  left-at = judged-at (c .end) (stateAt c (c .end)) i l (state-full c (c .end))
+  left-at = judged-at i l (c .end) (stateAt c (c .end)) (state-full c (c .end))
 
   -- a job left at the end has a later deadline
   left-from : isPresent (jobAt (closing c) i) ≡ true → From (replayOf c) i (c .end) (suc (c .end)) (jobAt (closing c) i)

@@ -17,10 +17,11 @@ use Rattle.rules.specs.Counts.{availability, availabilities, count}
 use Rattle.rules.specs.Slot.{jobAt, isPresent, dueOf, isMissed, contentionFree, workedJob, lastUnit}
 use Rattle.bridge.specs.Steps.{judgedJob}
 use Rattle.bridge.specs.Sums.{sum-split, sum-mono, sum-const, sum-swap}
+use Rattle.bridge.specs.Course.{Course, stateIn, contentionFreeIn, foundIn, openIn, course-first, next-in}
 use Rattle.theory.specs.Counting.{count-cong, count-mono, count-none, over-count, count-both}
 use Rattle.theory.specs.Window.{span-in, spanned, window}
 use Rattle.theory.specs.Release.{times, sporadic, in-times}
-use Rattle.theory.specs.Course.{Course, Lawful, stateIn, contentionFreeIn, foundIn, openIn, course-first, next-in, kept-in, jobs-found}
+use Rattle.theory.specs.Lawful.{Lawful, kept-in, jobs-found}
 
 -- ---- a job that is there comes from a release whose deadline is ahead
 -- the job j of the task at i comes from a release before `late`, and its deadline is not before `early`

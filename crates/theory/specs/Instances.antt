@@ -13,8 +13,9 @@ use Rattle.rules.specs.Counts.{availability, availabilities, count, freeCount}
 use Rattle.rules.specs.Refusals.{orNext, firstOf, procsFault, policyFault, tableFault, taskFault, endFault, traceFault, inOrder, lastBefore, releaseFault, caseFault, Accepted}
 use Rattle.rules.specs.Slot.{present, judged, joined, demoted, jobsNow, contentionFree, lowered, opened, jobBefore, rank, chosen, worked, after, ran, finished, demotedNow}
 use Rattle.rules.specs.Replay.{setupIn, releasedIn, releasedAt, stateFrom, stateAt, ranAt, finishedAt, demotedAt, contentionFreeAt, slotsBy, finishBy, demotionBy, verdictBy, recordOf, recordBy}
+use Rattle.bridge.specs.Course.{Course, stateIn, contentionFreeIn, demotedIn, finishedIn, finishIn, demotionIn}
 use Rattle.bridge.specs.Legal.{legal}
-use Rattle.theory.specs.Course.{Course, Lawful, Attends, stateIn, contentionFreeIn, demotedIn, finishedIn, finishIn, demotionIn}
+use Rattle.theory.specs.Lawful.{Lawful, Attends}
 use Rattle.theory.specs.Accept.{lawful}
 
 -- document 01's set A, m = 2: all three tasks released at 0

@@ -13,11 +13,12 @@ use Rattle.rules.specs.Case.{Case, deadline, releaseCount, timeOf, nameOf}
 use Rattle.rules.specs.Refusals.{Accepted}
 use Rattle.rules.specs.Slot.{jobAt, isDemoted, dueOf, present, readied, demoted, jobsNow, opened, ran}
 use Rattle.rules.specs.Replay.{setupIn, releasedAt, stateAt, closing, ranAt, finishedAt, missedAt, slotsBy, finishBy, verdictBy, recordBy, metJobs, missedJobs, openJobs}
+use Rattle.bridge.specs.Stands.{replayOf, replay-state}
 use Rattle.bridge.specs.Legal.{legal}
 use Rattle.bridge.specs.Records.{taskAt}
 use Rattle.theory.specs.Counting.{first-in}
 use Rattle.theory.specs.Order.{chosen-exactly, demoted-last}
-use Rattle.theory.specs.Course.{replayOf, replay-state, jobs-opened}
+use Rattle.theory.specs.Lawful.{jobs-opened}
 use Rattle.theory.specs.Verdicts.{met-by-finish, finish-of-met, all-marked, marked-count}
 use Rattle.theory.specs.Past.{retraced, job-same}
 use Rattle.theory.specs.Endings.{missed-removed, removed-missed, open-left, left-open, removed-release, left-release, open-count}

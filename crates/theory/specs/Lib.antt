@@ -3,7 +3,7 @@ pub mod Order
 pub mod Avail
 pub mod Window
 pub mod Release
-pub mod Course
+pub mod Lawful
 pub mod Enough
 pub mod Story
 pub mod Demoted

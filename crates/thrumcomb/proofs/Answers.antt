@@ -1,59 +1,37 @@
 -- What the calls on an accepted case answer: no refusal but that of a slot beyond its end, and the values of the rules.
 use mathlib.Core.Path.{_≡_, refl, sym, ap, _∙_}
-use mathlib.Core.Bool.{Bool, true, false, false≢true}
+use mathlib.Core.Bool.{Bool, true, false}
 use mathlib.Core.List.{List, [], _∷_}
 use Prim.Native.Nat.{ℕ, _*_, _≤_}
 use native.Mathlib.Omega.{arith}
 use lib.Dec.{eqb, ltb}
-use lib.ListN.{length, getD}
-use borrow.Author.Tests.{eqb-true, le-leb}
+use lib.ListN.{getD}
+use borrow.Author.Tests.{le-leb}
 use Rattle.rules.specs.Words.{pick}
 use Rattle.rules.specs.declared.Fault.{Fault}
 use Rattle.rules.specs.Case.{Case, taskCount, releaseCount}
 use Rattle.rules.specs.Refusals.{noFault, unless, orNext, procsFault, policyFault, tableFault, tasksFault, roomFault, slotFault, caseFault, countsFault, replayFault, runningFault, Accepted}
-use Rattle.rules.specs.Answers.{Answer, refusal, result, settled, kept}
+use Rattle.rules.specs.Answers.{refusal, result, settled}
 use Rattle.rules.specs.Replay.{runningSet}
 use Rattle.rules.specs.Calls.{runningAnswer}
-use Rattle.rules.specs.Writer.{caseText, writeFault}
+use Rattle.rules.specs.Writer.{writeFault}
 use Rattle.rules.specs.Report.{refusedLine}
 use Rattle.bridge.specs.Legal.{legal, next-clear}
+use Rattle.bridge.specs.Settled.{settled-clear, valuesOf, no-refusal, settled-result}
 use Rattle.roundtrip.specs.CaseLines.{text-fits}
+use Rattle.roundtrip.specs.CallTrip.{write-clear}
 use Rattle.report.specs.Lines.{runningLine}
 use Rattle.thrumcomb.specs.Prints.{slotText, refusalText, printRoom}
 
 -- ---- answers
-abbrev isResult : Answer → Bool
-isResult (refusal n p) = false
-isResult (result vs) = true
-
-abbrev pub valuesOf : Answer → List ℕ
-valuesOf (refusal n p) = []
-valuesOf (result vs) = vs
-
-settled-clear : (f : Fault) (vs : List ℕ) → f .number ≡ 0 → settled f vs ≡ result vs
-unfolding settled
-settled-clear f vs e = rw e
-
-pub kept-clear : (f : Fault) (new old : List ℕ) → f .number ≡ 0 → kept f new old ≡ new
-unfolding kept
-kept-clear f new old e = rw e
-
--- where nothing is at fault there is no refusal, and the values are those
+-- where nothing is at fault there is no refusal; the values of a result are those
 pub never-refused : (f : Fault) (vs : List ℕ) (n p : ℕ) → f .number ≡ 0 → refusal n p ≡ settled f vs → ⊥
-never-refused f vs n p e h = false≢true (ap isResult (h ∙ settled-clear f vs e))
+never-refused f vs n p e h = no-refusal n p vs (h ∙ settled-clear f vs e)
 
-pub values-are : (f : Fault) (vs ws : List ℕ) → f .number ≡ 0 → result ws ≡ settled f vs → ws ≡ vs
-values-are f vs ws e h = ap valuesOf (h ∙ settled-clear f vs e)
+pub values-are : (f : Fault) (vs ws : List ℕ) → result ws ≡ settled f vs → ws ≡ vs
+values-are f vs ws h = sym (settled-result f vs ws (sym h) .1)
 
--- a result comes of no fault, and a refusal of the fault that it names
-pub result-clear : (f : Fault) (vs ws : List ℕ) → result ws ≡ settled f vs → f .number ≡ 0
-unfolding settled
-result-clear f vs ws h = go (eqb (f .number) 0) refl h
-  where
-    go : (b : Bool) → eqb (f .number) 0 ≡ b → result ws ≡ pick b (result vs) (refusal (f .number) (f .place)) → f .number ≡ 0
-    go true q e = eqb-true _ _ q
-    go false q e = absurd (false≢true (sym (ap isResult e)))
-
+-- a refusal comes of the fault that it names
 pub refusal-says : (f : Fault) (vs : List ℕ) (n p : ℕ) → refusal n p ≡ settled f vs
     → (eqb (f .number) 0 ≡ false) × (refusedLine n p ≡ refusedLine (f .number) (f .place))
 unfolding settled
@@ -61,7 +39,7 @@ refusal-says f vs n p h = go (eqb (f .number) 0) refl h
   where
     go : (b : Bool) → eqb (f .number) 0 ≡ b → refusal n p ≡ pick b (result vs) (refusal (f .number) (f .place))
         → (eqb (f .number) 0 ≡ false) × (refusedLine n p ≡ refusedLine (f .number) (f .place))
-    go true q e = absurd (false≢true (ap isResult e))
+    go true q e = absurd (no-refusal n p vs e)
     go false q e = (q, ap refusalText e)
 
 -- ---- the rooms of the program are long enough
@@ -72,10 +50,7 @@ replay-fits c h =
     rw (h, le-leb (releaseCount (c .trace) * 3) 6000 g)
 
 pub write-fits : (c : Case) (room : ℕ) → Accepted c → printRoom ≤ room → writeFault c room .number ≡ 0
-unfolding writeFault Accepted roomFault orNext
-write-fits c room h p =
-    let g : length (caseText c) ≤ room = omega (arith, text-fits c h, p) in
-    rw (h, le-leb (length (caseText c)) room g)
+write-fits c room h p = write-clear c room h (omega (arith, text-fits c h, p))
 
 table-clear : (c : Case) → Accepted c → (procsFault (c .procs) .number ≡ 0) × (tableFault (c .table) .number ≡ 0) × (tasksFault (c .table) .number ≡ 0)
 unfolding Accepted caseFault
@@ -114,7 +89,7 @@ module _ (c : Case) (s : ℕ) (ok : Accepted c) where
   slot-refused n p h = go (ltb s (c .end)) (h ∙ running-is)
     where
       go : (b : Bool) → refusal n p ≡ settled (unless b 15 0) (runningSet c s ∷ []) → refusedLine n p ≡ pick b (runningLine s (runningSet c s)) (refusedLine 15 0)
-      go true e = absurd (false≢true (ap isResult e))
+      go true e = absurd (no-refusal n p _ e)
       go false e = ap refusalText e
 
   pub slot-ran : (set : ℕ) → result (set ∷ []) ≡ runningAnswer c s → runningLine s set ≡ slotText c s
@@ -123,4 +98,4 @@ module _ (c : Case) (s : ℕ) (ok : Accepted c) where
     where
       go : (b : Bool) → result (set ∷ []) ≡ settled (unless b 15 0) (runningSet c s ∷ []) → runningLine s set ≡ pick b (runningLine s (runningSet c s)) (refusedLine 15 0)
       go true e = ap (λ a. runningLine s (getD (valuesOf a) 0 0)) e
-      go false e = absurd (false≢true (sym (ap isResult e)))
+      go false e = absurd (no-refusal 15 0 _ (sym e))

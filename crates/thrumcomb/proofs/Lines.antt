@@ -1,8 +1,8 @@
 -- Lines one after the other: none, one more in the part from the present end on, and how long a job line can be.
-use mathlib.Core.Path.{_≡_, refl, sym, ap, _∙_}
-use mathlib.Core.List.{List, [], _∷_, _++_, append-assoc, append-nil}
+use mathlib.Core.Path.{_≡_, refl}
+use mathlib.Core.List.{List, [], _∷_, _++_}
 use Prim.Native.Nat.{ℕ, _+_, _-_, _*_, _≤_}
-use native.Mathlib.Nat.{zero-add, suc-mul}
+use native.Mathlib.Nat.{suc-mul}
 use native.Mathlib.Numerals.{add-one}
 use native.Mathlib.Omega.{arith}
 use lib.ListN.{length, take, drop, length-append}
@@ -12,23 +12,18 @@ use Rattle.rules.specs.Replay.{Record}
 use Rattle.rules.specs.Text.{digitsOf}
 use Rattle.rules.specs.Writer.{joinedText}
 use Rattle.rules.specs.Report.{jobWord, verdictName, finishField, demotionField, jobLine}
-use Rattle.bridge.specs.Lists.{tab-snoc}
+use Rattle.bridge.specs.Lists.{joined-more}
+use Rattle.roundtrip.specs.Digits.{at-most-ten}
 use Rattle.puts.specs.Fields.{fieldsText}
-use Rattle.puts.proofs.Digits.{at-most-ten}
 use Rattle.puts.proofs.Lines.{line-length}
 use Rattle.puts.proofs.Puts.{laid-none, laid-then, laid-part}
 use Rattle.report.specs.Lines.{Printed}
 use Rattle.report.proofs.Lines.{verdict-room, finish-room, demotion-room}
 use Rattle.thrumcomb.specs.Prints.{linesText, Listed, jobRoom, Shown}
 
-joined-last : (ss : List (List ℕ)) (s : List ℕ) → joinedText (ss ++ (s ∷ [])) ≡ joinedText ss ++ s
-unfolding joinedText
-joined-last [] s = append-nil s
-joined-last (r ∷ ss) s = ap (λ (l : List ℕ). r ++ l) (joined-last ss s) ∙ sym (append-assoc r (joinedText ss) s)
-
 lines-suc : (f : ℕ → List ℕ) (n : ℕ) → linesText f (n + 1) ≡ linesText f n ++ f n
 unfolding linesText
-lines-suc f n = rw (add-one n) (ap joinedText (tab-snoc f 0 n) ∙ joined-last (tab f 0 n) (f (0 + n)) ∙ rw (zero-add n))
+lines-suc f n = rw (add-one n) (joined-more f n)
 
 pub listed-none : (f : ℕ → List ℕ) (w at : ℕ) (old : List ℕ) → Listed f w at 0 old old at
 unfolding linesText joinedText tab

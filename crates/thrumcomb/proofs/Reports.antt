@@ -15,12 +15,12 @@ use Rattle.rules.specs.Report.{jobLine, totalLine, releaseLine, report}
 use Rattle.bridge.specs.Lists.{tab-long, tab-at, tab-cong}
 use Rattle.bridge.specs.Notes.{numbers-long}
 use Rattle.bridge.specs.Legal.{legal}
+use Rattle.bridge.specs.Settled.{kept-new}
 use Rattle.puts.specs.Laid.{Laid}
 use Rattle.puts.proofs.Puts.{laid-then}
 use Rattle.report.specs.Lines.{runText, totalText}
 use Rattle.report.proofs.Lines.{run-is, total-is}
 use Rattle.thrumcomb.specs.Prints.{linesText, jobText, Stands}
-use Rattle.thrumcomb.proofs.Answers.{kept-clear}
 
 noRecord : Record
 noRecord = recordOf 0 0 0
@@ -56,7 +56,7 @@ module _ (c : Case) (ok : Accepted c) where
   module _ (room out : List ℕ) (o : out ≡ replayRoom c room) (f : replayFault c (length room) .number ≡ 0) where
     noted : out ≡ numbers (records c) ++ drop (releaseCount (c .trace) * 3) room
     unfolding replayRoom roomAfter
-    noted = o ∙ kept-clear (replayFault c (length room)) _ _ f
+    noted = o ∙ kept-new (replayFault c (length room)) _ _ f
 
     pub fits : releaseCount (c .trace) * 3 ≤ length out
     fits =

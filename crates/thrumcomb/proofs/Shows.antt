@@ -4,10 +4,8 @@ use mathlib.Core.List.{List, [], _∷_, _++_}
 use Prim.Native.Nat.{ℕ, _+_, _*_, _-_, _≤_, _<_}
 use native.Mathlib.Nat.{zero-add}
 use native.Mathlib.Omega.{arith}
-use lib.Dec.{leb}
 use lib.ListN.{length, getD, take, drop, length-append}
 use lib.Seq.{sets, sets-eq}
-use borrow.Author.Tests.{leb-true}
 use Rattle.rules.specs.declared.Counted.{Counted}
 use Rattle.rules.specs.declared.Counted.the-variants as Counted·
 use Rattle.rules.specs.declared.Replayed.{Replayed}
@@ -20,7 +18,7 @@ use Rattle.rules.specs.declared.Written.{Written}
 use Rattle.rules.specs.declared.Written.the-variants as Written·
 use Rattle.rules.specs.Case.{Case, caseOf, taskCount}
 use Rattle.rules.specs.Counts.{freeCount, freeCounts}
-use Rattle.rules.specs.Refusals.{procsFault, tableFault, tasksFault, roomFault, countsFault, replayFault, Accepted}
+use Rattle.rules.specs.Refusals.{countsFault, replayFault, Accepted}
 use Rattle.rules.specs.Answers.{result, countedAs, replayedAs, runningAs, takenAs, writtenAs}
 use Rattle.rules.specs.Replay.{metJobs, missedJobs, openJobs}
 use Rattle.rules.specs.Calls.{countsAnswer, countsRoom, replayAnswer, runningAnswer}
@@ -28,14 +26,14 @@ use Rattle.rules.specs.Reader.{readAnswer, readTasks, readReleases}
 use Rattle.rules.specs.Writer.{joinedText, caseText, writeFault, writeAnswer, writeBytes}
 use Rattle.rules.specs.Report.{refusedLine}
 use Rattle.bridge.specs.Lists.{tab-long, tab-at, tab-front, tab-cong}
-use Rattle.bridge.specs.Legal.{unless-clear, next-clear}
+use Rattle.bridge.specs.Settled.{kept-new}
 use Rattle.roundtrip.specs.CaseLines.{text-fits}
 use Rattle.puts.proofs.Puts.{laid-none}
 use Rattle.report.specs.Lines.{lineRoom, Printed, runningLine}
 use Rattle.thrumcomb.specs.Prints.{linesText, countText, slotText, refusalText, caseSays, textSays, Listed, printRoom, Shown}
 use Rattle.thrumcomb.specs.declared.Wish.{Wish}
 use Rattle.thrumcomb.proofs.Lines.{shown-line}
-use Rattle.thrumcomb.proofs.Answers.{never-refused, values-are, kept-clear, write-fits, slot-refused, slot-ran}
+use Rattle.thrumcomb.proofs.Answers.{never-refused, values-are, write-fits, slot-refused, slot-ran}
 use Rattle.thrumcomb.proofs.Taken.{refused-text, tasks-few, releases-few, tasks-long, releases-long, case-stands, case-says}
 
 -- ---- the replay
@@ -46,18 +44,9 @@ module _ (c : Case) (room : List ℕ) (x : Replayed) (f : replayFault c (length 
 
   pub replay-totals : (a b d : ℕ) → x ≡ Replayed·.Judged a b d → _≡_ {A = List ℕ} (a ∷ b ∷ d ∷ []) (metJobs c ∷ missedJobs c ∷ openJobs c ∷ [])
   unfolding replayAnswer
-  replay-totals a b d e = values-are (replayFault c (length room)) _ _ f (sym (ap replayedAs e) ∙ h)
+  replay-totals a b d e = values-are (replayFault c (length room)) _ _ (sym (ap replayedAs e) ∙ h)
 
 -- ---- the counts
-pub counts-few : (m : ℕ) (ts : List ℕ) → countsFault m ts 32 .number ≡ 0 → taskCount ts ≤ 32
-unfolding countsFault roomFault
-counts-few m ts e =
-    let a = next-clear (procsFault m) _ e in
-    let b = next-clear (tableFault ts) _ (a .1) in
-    let d = next-clear (tasksFault ts) _ (b .1) in
-    let g = next-clear (roomFault (taskCount ts) 32) _ (d .1) in
-    leb-true _ _ (unless-clear (leb (taskCount ts) 32) 13 0 (omega arith) (g .0))
-
 module _ (m : ℕ) (ts room : List ℕ) (f : countsFault m ts (length room) .number ≡ 0) where
   module _ (x : Counted) (h : countedAs x ≡ countsAnswer m ts room) where
     pub counts-accepts : (n p : ℕ) → x ≡ Counted·.Refused n p → ⊥
@@ -66,12 +55,12 @@ module _ (m : ℕ) (ts room : List ℕ) (f : countsFault m ts (length room) .num
 
     pub counts-number : (n : ℕ) → x ≡ Counted·.Counts n → n ≡ taskCount ts
     unfolding countsAnswer
-    counts-number n e = ap (λ l. getD l 0 0) (values-are (countsFault m ts (length room)) (taskCount ts ∷ []) (n ∷ []) f (sym (ap countedAs e) ∙ h))
+    counts-number n e = ap (λ l. getD l 0 0) (values-are (countsFault m ts (length room)) (taskCount ts ∷ []) (n ∷ []) (sym (ap countedAs e) ∙ h))
 
   module _ (out : List ℕ) (o : out ≡ countsRoom m ts room) where
     counted : out ≡ freeCounts m ts ++ drop (taskCount ts) room
     unfolding countsRoom
-    counted = o ∙ kept-clear (countsFault m ts (length room)) _ _ f
+    counted = o ∙ kept-new (countsFault m ts (length room)) _ _ f
 
     pub counts-long : taskCount ts ≤ length out
     counts-long =
@@ -116,11 +105,11 @@ module _ (c : Case) (old : List ℕ) (ok : Accepted c) (room : printRoom ≤ len
   unfolding writeAnswer writeBytes
   text-shown k e new o =
       let f = write-fits c (length old) ok room in
-      let n : k ≡ length (caseText c) = ap (λ l. getD l 0 0) (values-are (writeFault c (length old)) (length (caseText c) ∷ []) (k ∷ []) f (sym (ap writtenAs e) ∙ h)) in
+      let n : k ≡ length (caseText c) = ap (λ l. getD l 0 0) (values-are (writeFault c (length old)) (length (caseText c) ∷ []) (k ∷ []) (sym (ap writtenAs e) ∙ h)) in
       let g : 0 + length (caseText c) ≤ length old = omega (arith, text-fits c ok, room) in
       let b : sets old 0 (caseText c) ≡ caseText c ++ drop (length (caseText c)) old = sets-eq (caseText c) old 0 g ∙ rw (zero-add (length (caseText c))) in
       record {
-        laid = record { behind = omega (arith, n); bytes = o ∙ kept-clear (writeFault c (length old)) _ _ f ∙ sym b };
+        laid = record { behind = omega (arith, n); bytes = o ∙ kept-new (writeFault c (length old)) _ _ f ∙ sym b };
         short = omega (arith, n, text-fits c ok);
       }
 

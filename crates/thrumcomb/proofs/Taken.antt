@@ -1,12 +1,11 @@
 -- What the reader's answer says of the text: a refusal is the text's, and the case read is the text's case and accepted.
 use mathlib.Core.Path.{_≡_, sym, ap, _∙_}
 use mathlib.Core.Bool.{Bool, true, false, false≢true}
-use mathlib.Core.List.{List, [], _∷_, _++_}
+use mathlib.Core.List.{List, [], _∷_}
 use Prim.Native.Nat.{ℕ, _*_, _≤_}
 use native.Mathlib.Omega.{arith}
 use lib.Dec.{eqb}
 use lib.ListN.{length, getD, take, drop, length-append}
-use lib.Seq.{take-append-seam}
 use borrow.Author.Tests.{le-leb}
 use Rattle.rules.specs.Words.{pick}
 use Rattle.rules.specs.declared.Fault.{Fault}
@@ -15,12 +14,13 @@ use Rattle.rules.specs.Refusals.{noFault, orNext, roomFault, Accepted}
 use Rattle.rules.specs.Answers.{refusal, result, settled}
 use Rattle.rules.specs.Reader.{caseIn, textFault, readFault, caseValues, readAnswer, readTasks, readReleases}
 use Rattle.rules.specs.Report.{refusedLine}
-use Rattle.bridge.specs.Legal.{legal, next-clear}
-use Rattle.roundtrip.specs.CaseLines.{accepted-whole}
+use Rattle.bridge.specs.Legal.{Legal, legal, next-clear}
+use Rattle.bridge.specs.Settled.{settled-result}
 use Rattle.roundtrip.specs.RoundTrip.{case-accepted}
+use Rattle.roundtrip.specs.CallTrip.{inHand, ReadAs, read-as}
 use Rattle.thrumcomb.specs.Prints.{caseSays, textSays}
 use Rattle.thrumcomb.specs.declared.Wish.{Wish}
-use Rattle.thrumcomb.proofs.Answers.{kept-clear, result-clear, values-are, refusal-says}
+use Rattle.thrumcomb.proofs.Answers.{refusal-says}
 
 module _ (s ts rs : List ℕ) where
   -- ---- a refusal
@@ -43,73 +43,50 @@ module _ (s ts rs : List ℕ) where
 
   -- ---- a case
   module _ (m p e n k : ℕ) (h : result (m ∷ p ∷ e ∷ n ∷ k ∷ []) ≡ readAnswer s ts rs) where
-    read-clear : readFault s (length ts) (length rs) .number ≡ 0
+    settled-read : (readFault s (length ts) (length rs) .number ≡ 0) × (caseValues (caseIn s) ≡ m ∷ p ∷ e ∷ n ∷ k ∷ [])
     unfolding readAnswer
-    read-clear = result-clear (readFault s (length ts) (length rs)) (caseValues (caseIn s)) _ h
+    settled-read = settled-result (readFault s (length ts) (length rs)) (caseValues (caseIn s)) _ (sym h)
 
     pub text-clear : textFault s .number ≡ 0
     unfolding readFault
     text-clear =
-        let t = next-clear (roomFault 96 (length ts)) _ read-clear in
+        let t = next-clear (roomFault 96 (length ts)) _ (settled-read .0) in
         let r = next-clear (roomFault 4000 (length rs)) _ (t .1) in
         next-clear (textFault s) _ (r .1) .0
 
-    values : _≡_ {A = List ℕ} (m ∷ p ∷ e ∷ n ∷ k ∷ []) (caseValues (caseIn s))
-    unfolding readAnswer
-    values = values-are (readFault s (length ts) (length rs)) _ _ read-clear h
+    stands : Legal (caseIn s)
+    stands = legal (caseIn s) (case-accepted s text-clear)
+
+    read : ReadAs s ts rs (caseIn s)
+    read = read-as s ts rs (settled-read .0) stands
 
     tasks-read : n ≡ taskCount (caseIn s .table)
     unfolding caseValues
-    tasks-read = ap (λ l. getD l 3 0) values
+    tasks-read = sym (ap (λ l. getD l 3 0) (settled-read .1))
 
     releases-read : k ≡ releaseCount (caseIn s .trace)
     unfolding caseValues
-    releases-read = ap (λ l. getD l 4 0) values
+    releases-read = sym (ap (λ l. getD l 4 0) (settled-read .1))
 
     pub tasks-few : n ≤ 32
-    tasks-few = omega (arith, tasks-read, legal (caseIn s) (case-accepted s text-clear) .tasks-few)
+    tasks-few = omega (arith, tasks-read, stands .tasks-few)
 
     pub releases-few : k ≤ 2000
-    releases-few = omega (arith, releases-read, legal (caseIn s) (case-accepted s text-clear) .releases-few)
-
-    take-first : (l : ℕ) (xs ys : List ℕ) → l ≡ length xs → take l (xs ++ ys) ≡ xs
-    take-first l xs ys q = rw q (take-append-seam xs ys)
-
-    tasks-noted : readTasks s ts rs ≡ caseIn s .table ++ drop (length (caseIn s .table)) ts
-    unfolding readTasks
-    tasks-noted = kept-clear (readFault s (length ts) (length rs)) _ _ read-clear
-
-    releases-noted : readReleases s ts rs ≡ caseIn s .trace ++ drop (length (caseIn s .trace)) rs
-    unfolding readReleases
-    releases-noted = kept-clear (readFault s (length ts) (length rs)) _ _ read-clear
-
-    tasks-whole : n * 3 ≡ length (caseIn s .table)
-    tasks-whole = omega (arith, tasks-read, accepted-whole (caseIn s) (case-accepted s text-clear) .threes)
-
-    releases-whole : k * 2 ≡ length (caseIn s .trace)
-    releases-whole = omega (arith, releases-read, accepted-whole (caseIn s) (case-accepted s text-clear) .twos)
+    releases-few = omega (arith, releases-read, stands .releases-few)
 
     -- the numbers read are there
     pub tasks-long : n * 3 ≤ length (readTasks s ts rs)
-    tasks-long = omega (arith, tasks-whole, ap length tasks-noted ∙ length-append (caseIn s .table) (drop (length (caseIn s .table)) ts))
+    tasks-long =
+        omega (arith, tasks-read, stands .threes, ap length (read .tasks-after) ∙ length-append (caseIn s .table) (drop (length (caseIn s .table)) ts))
 
     pub releases-long : k * 2 ≤ length (readReleases s ts rs)
-    releases-long = omega (arith, releases-whole, ap length releases-noted ∙ length-append (caseIn s .trace) (drop (length (caseIn s .trace)) rs))
-
-    table-read : take (n * 3) (readTasks s ts rs) ≡ caseIn s .table
-    table-read = ap (take (n * 3)) tasks-noted ∙ take-first (n * 3) (caseIn s .table) _ tasks-whole
-
-    trace-read : take (k * 2) (readReleases s ts rs) ≡ caseIn s .trace
-    trace-read = ap (take (k * 2)) releases-noted ∙ take-first (k * 2) (caseIn s .trace) _ releases-whole
+    releases-long =
+        omega (arith, releases-read, stands .twos, ap length (read .releases-after) ∙ length-append (caseIn s .trace) (drop (length (caseIn s .trace)) rs))
 
     -- what the caller has in hand is the case of the text
     pub case-read : caseOf m p (take (n * 3) (readTasks s ts rs)) e (take (k * 2) (readReleases s ts rs)) ≡ caseIn s
-    unfolding caseValues
-    case-read =
-        let a : m ≡ caseIn s .procs = ap (λ l. getD l 0 0) values in
-        let b : p ≡ caseIn s .policy = ap (λ l. getD l 1 0) values in
-        let d : e ≡ caseIn s .end = ap (λ l. getD l 2 0) values in
-        rw (a, b, d, table-read, trace-read)
+    unfolding inHand
+    case-read = ap (λ l. inHand l (readTasks s ts rs) (readReleases s ts rs)) (sym (settled-read .1)) ∙ read .in-hand
 
     pub case-stands : Accepted (caseOf m p (take (n * 3) (readTasks s ts rs)) e (take (k * 2) (readReleases s ts rs)))
     case-stands = rw case-read (case-accepted s text-clear)

@@ -1,8 +1,8 @@
 -- Rows of numbers as lines: one more row, the rows of tasks and releases, and how many bytes rows take.
-use mathlib.Core.Path.{_≡_, refl, sym, ap, _∙_}
-use mathlib.Core.List.{List, [], _∷_, _++_, map, append-assoc, append-nil}
+use mathlib.Core.Path.{_≡_, refl, ap, _∙_}
+use mathlib.Core.List.{List, [], _∷_, _++_, map}
 use Prim.Native.Nat.{ℕ, zero, suc, _+_, _-_, _*_, _≤_, _<_}
-use native.Mathlib.Nat.{zero-add, add-zero, add-suc, suc-mul, zero-mul}
+use native.Mathlib.Nat.{add-zero, add-suc, suc-mul, zero-mul}
 use native.Mathlib.Numerals.{add-one}
 use native.Mathlib.Omega.{arith}
 use lib.ListN.{length, take, drop, getD, length-append}
@@ -11,17 +11,12 @@ use Rattle.rules.specs.Words.{tab}
 use Rattle.rules.specs.Case.{taskCount, releaseCount}
 use Rattle.rules.specs.Text.{digitsOf}
 use Rattle.rules.specs.Writer.{joinedText, taskText, releaseText}
-use Rattle.bridge.specs.Lists.{tab-snoc, tab-cong}
+use Rattle.bridge.specs.Lists.{joined-more, tab-cong}
 use Rattle.puts.specs.Fields.{fieldsText, numberFields, numberLine, wordOf}
 use Rattle.puts.proofs.Lines.{line-length, numbers-append}
 use Rattle.writer.specs.Rows.{rowText, rowsText}
 
 -- ---- one more row
-joined-last : (ss : List (List ℕ)) (s : List ℕ) → joinedText (ss ++ (s ∷ [])) ≡ joinedText ss ++ s
-unfolding joinedText
-joined-last [] s = append-nil s
-joined-last (r ∷ ss) s = ap (λ (l : List ℕ). r ++ l) (joined-last ss s) ∙ sym (append-assoc r (joinedText ss) s)
-
 pub rows-none : (word width : ℕ) (vs : List ℕ) → rowsText word width vs 0 ≡ []
 unfolding rowsText joinedText tab
 rows-none word width vs = refl
@@ -36,9 +31,7 @@ row-is word width vs i =
 module _ (word width : ℕ) (vs : List ℕ) where
   rows-more : (n : ℕ) → rowsText word width vs (suc n) ≡ rowsText word width vs n ++ rowText word width vs n
   unfolding rowsText
-  rows-more n =
-      ap joinedText (tab-snoc (rowText word width vs) 0 n) ∙
-      joined-last (tab (rowText word width vs) 0 n) (rowText word width vs (0 + n)) ∙ rw (zero-add n)
+  rows-more n = joined-more (rowText word width vs) n
 
   pub rows-suc : (n : ℕ) → rowsText word width vs (n + 1) ≡ rowsText word width vs n ++ rowText word width vs n
   rows-suc n = rw (add-one n) (rows-more n)

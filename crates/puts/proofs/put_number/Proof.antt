@@ -6,7 +6,8 @@ use native.Mathlib.Omega.{arith}
 use lib.ListN.{length, length-set}
 use lib.Seq.{sets}
 use Rattle.rules.specs.Text.{digitsOf}
-use Rattle.puts.proofs.Digits.{small, step-length}
+use Rattle.roundtrip.specs.Digits.{digits-small}
+use Rattle.puts.proofs.Digits.{step-length}
 use Rattle.puts.proofs.Puts.{store-digit}
 use Rattle.puts.proofs.put_number.Statement.{statement}
 use Rattle.puts.proofs.put_number.Tie as tie
@@ -55,7 +56,7 @@ digit-requires-2 : tie.Need-digit-requires-2 Inv-loop μ-loop
 digit-requires-2 c κs = search needs
 
 slice-write-out-2 : tie.Need-slice-write-out-2 Inv-loop μ-loop
-slice-write-out-2 c = omega (arith, ap length (small (c .before .before .loop .w) (omega arith)))
+slice-write-out-2 c = omega (arith, ap length (digits-small (c .before .before .loop .w) (omega arith)))
 
 same-length : tie.Need-same-length Inv-loop μ-loop
 same-length c = simp length-set (omega arith)
@@ -65,7 +66,7 @@ returns c =
     let l = c .before .before .loop in
     record {
       behind = ap (λ (k : ℕ). c .before .before .before .before .before .args .at + k) (c .before .before .before .width .ensures);
-      bytes = sym (sym (l .inv .4) ∙ rw (small (l .w) (omega arith), c .digit2 .ensures));
+      bytes = sym (sym (l .inv .4) ∙ rw (digits-small (l .w) (omega arith), c .digit2 .ensures));
     }
 
 pub put-number-spec : {M : Type 1} → statement M

@@ -4,7 +4,8 @@ use mathlib.Core.Path.{_≡_, refl, ap}
 use native.Mathlib.Omega.{arith}
 use lib.ListN.{length}
 use Rattle.rules.specs.Text.{digitsOf}
-use Rattle.puts.proofs.Digits.{small, step-length, at-most-ten}
+use Rattle.roundtrip.specs.Digits.{digits-small, at-most-ten}
+use Rattle.puts.proofs.Digits.{step-length}
 use Rattle.puts.proofs.width.Statement.{statement}
 use Rattle.puts.proofs.width.Tie as tie
 
@@ -27,7 +28,7 @@ loop-again : tie.Need-loop-again Inv-loop μ-loop
 loop-again c = omega (arith, step-length (c .before .loop .w) (omega arith) (omega arith))
 
 returns : tie.Need-returns Inv-loop μ-loop
-returns c = omega (arith, ap length (small (c .before .loop .w) (omega arith)))
+returns c = omega (arith, ap length (digits-small (c .before .loop .w) (omega arith)))
 
 pub width-spec : {M : Type 1} → statement M
 width-spec = tie.close (tie.spec Inv-loop μ-loop loop-holds add-n loop-less loop-again returns)

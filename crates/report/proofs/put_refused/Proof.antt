@@ -5,10 +5,10 @@ use Prim.Native.Nat.{_+_, _≤_}
 use lib.ListN.{length, set}
 use Rattle.rules.specs.Writer.{lineText, moreFields}
 use Rattle.rules.specs.Report.{refusedLine}
+use Rattle.roundtrip.specs.Digits.{at-most-ten}
 use Rattle.puts.specs.Laid.{Laid}
 use Rattle.puts.specs.Fields.{wordOf}
 use Rattle.puts.proofs.Puts.{laid-byte, laid-then, laid-length}
-use Rattle.puts.proofs.Digits.{at-most-ten}
 use Rattle.puts.proofs.Lines.{numbers-one, numbers-room}
 use Rattle.report.specs.Lines.{lineRoom}
 use borrow.Author.Needs.{needs}
