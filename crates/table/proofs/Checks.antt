@@ -11,7 +11,7 @@ use borrow.Author.Tests.{leb-true, ltb-true, eq-eqb, ne-eqb}
 use Rattle.rules.specs.declared.Fault.{Fault}
 use Rattle.rules.specs.Words.{pick}
 use Rattle.rules.specs.Case.{caseOf, taskCount, releaseCount, timeOf, nameOf}
-use Rattle.rules.specs.Refusals.{orNext, noFault, firstOf, lastBefore, apart, releaseFault, releasesFault}
+use Rattle.rules.specs.Refusals.{orNext, noFault, firstOf, lastBefore, releaseFault, releasesFault}
 use Rattle.bridge.specs.Lists.{tab-set}
 use Rattle.bridge.specs.Legal.{Clear, clear-release, and-left, and-right}
 use Rattle.bridge.specs.Firsts.{none-yet, none-more, first-hit}
