@@ -48,7 +48,7 @@ settled-clear f vs h = sym (settles f f refl vs h)
 pub kept-new : (f : Fault) (new old : List ℕ) → f .number ≡ 0 → kept f new old ≡ new
 kept-new f new old h = sym (puts f f refl new old h)
 
--- ---- a call that gives results found nothing at fault, and these are its values; a refusal is that of the fault that it names
+-- ---- a result is no refusal: a call that gives one found nothing at fault, and these are its values
 abbrev isResult : Answer → Bool
 isResult (refusal n p) = false
 isResult (result vs) = true
