@@ -1,6 +1,6 @@
 -- A walk over the releases of one time.
 use mathlib.Core.Path.{_≡_, refl, ap, sym, _∙_}
-use mathlib.Core.Bool.{Bool, true, false, _&&_, _||_, or-false}
+use mathlib.Core.Bool.{Bool, true, false, _&&_, or-true, or-false}
 use mathlib.Core.Logic.{_⊎_, inl, inr}
 use mathlib.Core.List.{List}
 use Prim.Native.Nat.{ℕ, zero, suc, _+_, _-_, _≤_, _<_}
@@ -44,10 +44,6 @@ taking-none rs clock from place w e = record {
 released-new : (rs : List ℕ) (k t i : ℕ) → timeOf rs k ≡ t → nameOf rs k ≡ suc i → releasedIn rs (suc k) t i ≡ true
 unfolding releasedIn
 released-new rs k t i e f = rw (eq-eqb (timeOf rs k) t e, eq-eqb (nameOf rs k) (suc i) f) (or-true (releasedIn rs k t i))
-  where
-    or-true : (b : Bool) → (b || true) ≡ true
-    or-true true = refl
-    or-true false = refl
 
 released-old : (rs : List ℕ) (k t i : ℕ) → (timeOf rs k ≡ t → nameOf rs k ≡ suc i → ⊥) → releasedIn rs (suc k) t i ≡ releasedIn rs k t i
 unfolding releasedIn

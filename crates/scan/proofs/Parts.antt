@@ -14,17 +14,17 @@ use Rattle.rules.specs.Words.{pick}
 use Rattle.rules.specs.Text.{upTo, past, has}
 
 -- x stands at i
-pub upTo-hit : (s : List ℕ) (i x : ℕ) → i < length s → getD s i 0 ≡ x → upTo x (drop i s) ≡ []
+upTo-hit : (s : List ℕ) (i x : ℕ) → i < length s → getD s i 0 ≡ x → upTo x (drop i s) ≡ []
 unfolding upTo
 upTo-hit s i x h e = rw (drop-cons s i 0 h, eq-eqb _ _ e)
 
 -- another byte stands at i
-pub upTo-miss : (s : List ℕ) (i x : ℕ) → i < length s → (getD s i 0 ≡ x → ⊥) → upTo x (drop i s) ≡ getD s i 0 ∷ upTo x (drop (i + 1) s)
+upTo-miss : (s : List ℕ) (i x : ℕ) → i < length s → (getD s i 0 ≡ x → ⊥) → upTo x (drop i s) ≡ getD s i 0 ∷ upTo x (drop (i + 1) s)
 unfolding upTo
 upTo-miss s i x h e = rw (add-one, drop-cons s i 0 h, ne-eqb _ _ e)
 
 -- no byte is left
-pub upTo-none : (x : ℕ) → upTo x [] ≡ []
+upTo-none : (x : ℕ) → upTo x [] ≡ []
 unfolding upTo
 upTo-none x = refl
 
@@ -46,6 +46,16 @@ pub upTo-le : (x : ℕ) (s : List ℕ) → length (upTo x s) ≤ length s
 unfolding upTo
 upTo-le x [] = zero-le
 upTo-le x (b ∷ s) = le-pick (eqb b x) b (upTo x s) s (upTo-le x s)
+
+-- ---- how much stands before the first x from i on: nothing where it is at i or nothing is left, else one byte more than from i + 1 on
+pub here : (s : List ℕ) (i x : ℕ) → i < length s → getD s i 0 ≡ x → length (upTo x (drop i s)) ≡ 0
+here s i x h e = ap length (upTo-hit s i x h e)
+
+pub not-here : (s : List ℕ) (i x : ℕ) → i < length s → (getD s i 0 ≡ x → ⊥) → length (upTo x (drop i s)) ≡ suc (length (upTo x (drop (i + 1) s)))
+not-here s i x h e = ap length (upTo-miss s i x h e)
+
+pub nothing-left : (s : List ℕ) (i x : ℕ) → length s ≤ i → length (upTo x (drop i s)) ≡ 0
+nothing-left s i x h = ap (λ (l : List ℕ). length (upTo x l)) (drop-of-length-le s h) ∙ ap length (upTo-none x)
 
 -- the part from `from` to the end that `seek` finds
 pub part-upTo : (x from e : ℕ) (s : List ℕ) → e ≡ from + length (upTo x (drop from s)) → take (e - from) (drop from s) ≡ upTo x (drop from s)

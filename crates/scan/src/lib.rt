@@ -8,17 +8,26 @@ ghost use Rattle.rules.specs.declared.Line.the-variants.{Procs, Row, End, Relea
 use rules::Line;
 use rules::Num;
 
-// The index of the first b of s from `from` on, or s's length where there is none.
+// The index of the first b of s from `from` on, or s's length where there is none. Two bytes a turn: such searches are most of what the
+// reader does.
 pub fn seek(s: &[u8], from: usize, b: u8) -> usize
     requires { ⌜ from ≤ length (now s) ⌝ }
     ensures { λ r. ⌜ r ≡ from + length (upTo b (drop from (now (s .entry)))) ⌝ }
 {
     let mut i = from;
-    while i < s.len() {
+    while i + 1 < s.len() {
         if s[i] == b {
             return i;
         }
-        i += 1;
+        if s[i + 1] == b {
+            return i + 1;
+        }
+        i += 2;
+    }
+    if i < s.len() {
+        if s[i] != b {
+            return i + 1;
+        }
     }
     i
 }
