@@ -1,7 +1,6 @@
--- Loops that write an array in order towards a list that is known beforehand, loops that count, and loops that write over a slice: what
--- holds of them at each turn, and how it goes on. Cited by the proofs of the loops in counts, reader and slot.
+-- Loops that write an array in order towards a list that is known beforehand, and loops that write over a slice: what holds of them at each
+-- turn, and how it goes on. Cited by the proofs of the loops in counts, reader and slot.
 use mathlib.Core.Path.{_≡_, refl, ap, sym, _∙_}
-use mathlib.Core.Bool.{Bool, true, false}
 use mathlib.Core.List.{List, _++_, append-nil}
 use Prim.Native.Nat.{ℕ, suc, _+_, _-_, _≤_, _<_}
 use native.Mathlib.Numerals.{add-one}
@@ -9,7 +8,7 @@ use native.Mathlib.Nat.{zero-add}
 use native.Mathlib.Omega.{arith}
 use lib.ListN.{length, take, drop, getD, set, length-append, length-drop, drop-of-length-le}
 use lib.Seq.{drop-cons, take-suc, take-all, length-take-le, set-at, getD-at, append-snoc, set-getD}
-use Rattle.rules.specs.Words.{sum, countIn, mapAt, tab}
+use Rattle.rules.specs.Words.{mapAt, tab}
 use Rattle.bridge.specs.Lists.{mapFrom-long, mapAt-at, tab-long, tab-snoc}
 
 -- the first `i` of `ys`, and after them what `xs` has from `i` on
@@ -84,27 +83,6 @@ module _ {A : Type 0} (f : ℕ → A → A) (n : ℕ) (xs s : List A) where
   each-keep i d h w e =
       let a = filling-at n (mapAt f xs) xs s i d h w in
       filling-keep n (mapAt f xs) xs s i d h w (sym (mapAt-at f xs i d (omega (arith, w .long)) ∙ ap (f i) (sym a) ∙ e ∙ a))
-
--- ---- a loop that counts the indices below `i` that pass
-pub record Counting (p : ℕ → Bool) (s i : ℕ) : Type 0 where
-  pub within : i ≤ 32
-  pub few : s ≤ i
-  pub so-far : s ≡ countIn p 0 i
-
-pub counting-none : (p : ℕ → Bool) → Counting p 0 0
-unfolding sum
-counting-none p = record { within = omega arith; few = omega arith; so-far = refl }
-
-pub counting-yes : (p : ℕ → Bool) (s i : ℕ) → i < 32 → Counting p s i → p i ≡ true → Counting p (s + 1) (i + 1)
-unfolding sum
-counting-yes p s i h w e = record { within = omega arith; few = omega (arith, w .few); so-far = rw (add-one i, zero-add i, e) (omega (arith, w .so-far)) }
-
-pub counting-no : (p : ℕ → Bool) (s i : ℕ) → i < 32 → Counting p s i → p i ≡ false → Counting p s (i + 1)
-unfolding sum
-counting-no p s i h w e = record { within = omega arith; few = omega (arith, w .few); so-far = rw (add-one i, zero-add i, e) (omega (arith, w .so-far)) }
-
-pub counting-all : (p : ℕ → Bool) (s i : ℕ) → 32 ≤ i → Counting p s i → s ≡ countIn p 0 32
-counting-all p s i h w = w .so-far ∙ ap (countIn p 0) (omega (arith, w .within))
 
 -- ---- a loop that writes f 0, f 1, .. in order over what a slice held: it began at `xs` and stands at index `i` with `s`
 pub record Laying {A : Type 0} (f : ℕ → A) (xs s : List A) (i : ℕ) : Type 0 where

@@ -1,13 +1,13 @@
 -- The loop over the slots, apart from the code: what one slot more gives, and how the records go on with it.
 use mathlib.Core.Path.{_≡_, refl, ap, sym, _∙_}
 use mathlib.Core.Bool.{Bool, true, false, _&&_, false≢true}
-use mathlib.Core.List.{List, [], _∷_, _++_}
+use mathlib.Core.List.{List, _++_}
 use Prim.Native.Nat.{ℕ, zero, suc, _+_, _-_, _*_, min, _≤_, _<_}
 use native.Mathlib.Numerals.{add-one}
 use native.Mathlib.Decide.{decLt}
 use native.Mathlib.Omega.{arith}
 use lib.Dec.{eqb, leb}
-use lib.ListN.{length, getD, drop, length-append, length-drop}
+use lib.ListN.{length, getD, drop, length-append, List·getD-eq-default}
 use lib.Seq.{drop-at}
 use borrow.Author.Tests.{lt-leb, eqb-true}
 use Rattle.rules.specs.declared.Run.{Run}
@@ -79,6 +79,16 @@ module _ (g : Setup) (now : ℕ) (s u : TaskSet) (r : Run) (f : Full r) (h : (i 
   unfolding demotedNow
   demoted-same i = ap (λ (x : Run). isCf g && isDemotedNow (jobAt x i)) readied-same
 
+  stepped-same : (run : Run) (n : ℕ) (ds rs fs ls : List Bool) → Stepped g now s r run n ds rs fs ls → Stepped g now u r run n ds rs fs ls
+  stepped-same run n ds rs fs ls q = record {
+    run = q .run ∙ after-same;
+    jobs = q .jobs ∙ ap (λ (x : Run). jobsNow (demoted g x)) readied-same;
+    demoted = q .demoted ∙ tab-cong _ _ 0 32 (λ i x y. demoted-same i);
+    ran = q .ran ∙ tab-cong _ _ 0 32 (λ i x y. ran-same i);
+    finished = q .finished ∙ tab-cong _ _ 0 32 (λ i x y. finished-same i);
+    late = q .late;
+  }
+
 module _ (c : Case) (g : Legal c) (clock : ℕ) (more : clock < c .end) (rel : List Bool)
     (re : rel ≡ releases (c .trace) (releaseCount (c .trace)) clock) where
   rel-at : (i : ℕ) → i < 32 → getD rel i false ≡ releasedAt c clock i
@@ -103,12 +113,7 @@ module _ (c : Case) (g : Legal c) (clock : ℕ) (more : clock < c .end) (rel : L
     where
       go : Dec (i < 32) → i < taskCount (c .table)
       go (yes h) = some-release (c .trace) (releaseCount (c .trace)) clock i (λ j l. g .named j l .1) (sym (rel-at i h) ∙ e)
-      go (no h) = absurd (false≢true (sym (beyond rel i false (rw (re, tab-long (releasedIn (c .trace) (releaseCount (c .trace)) clock) 0 32) (omega arith))) ∙ e))
-        where
-          beyond : (xs : List Bool) (i : ℕ) (d : Bool) → length xs ≤ i → getD xs i d ≡ d
-          beyond [] i d h = refl
-          beyond (x ∷ xs) zero d h = absurd (omega arith)
-          beyond (x ∷ xs) (suc i) d h = beyond xs i d (omega arith)
+      go (no h) = absurd (false≢true (sym (List·getD-eq-default rel false {n = i} (rw (re, tab-long (releasedIn (c .trace) (releaseCount (c .trace)) clock) 0 32) (omega arith))) ∙ e))
 
   pub needed : (counts : List ℕ) → Counts (c .procs) (c .table) counts → Needed (c .procs) clock (c .table) counts rel
   needed counts q = record {
@@ -120,26 +125,19 @@ module _ (c : Case) (g : Legal c) (clock : ℕ) (more : clock < c .end) (rel : L
 
   module _ (run : Run) (e : run ≡ stateAt c clock) (run′ : Run) (jobs : ℕ) (ds rs fs ls : List Bool)
       (q : Stepped (setupIn c) clock (λ i. getD rel i false) run run′ jobs ds rs fs ls) where
-    same-step : Stepped (setupIn c) clock (λ i. getD rel i false) (stateAt c clock) run′ jobs ds rs fs ls
-    same-step = rw e at q
+    -- it is the slot of the case
+    same-step : Stepped (setupIn c) clock (releasedAt c clock) (stateAt c clock) run′ jobs ds rs fs ls
+    same-step = stepped-same (setupIn c) clock (λ i. getD rel i false) (releasedAt c clock) (stateAt c clock) (state-full c clock) rel-at run′ jobs ds rs fs ls (rw e at q)
 
     next-run : run′ ≡ stateAt c (suc clock)
-    next-run = same-step .run ∙ after-same (setupIn c) clock (λ i. getD rel i false) (releasedAt c clock) (stateAt c clock) (state-full c clock) rel-at ∙ sym (state-next c clock)
+    next-run = same-step .run ∙ sym (state-next c clock)
 
     -- the walk after the slot, and the set that ran
     pub turned : (place : List ℕ) (next : ℕ) → Reached (c .trace) next (suc clock) → place ≡ places (c .trace) next → Turned c clock run′ place next jobs rs
     unfolding ranAt
     turned place next k p = record {
-      walks = record {
-        at-run = next-run;
-        reached = k;
-        at-place = p;
-        idle = λ z. none-left c clock
-            (ap (λ (y : Run). jobsNow (demoted (setupIn c) y))
-            (sym (readied-same (setupIn c) clock (λ i. getD rel i false) (releasedAt c clock) (stateAt c clock) (state-full c clock) rel-at)) ∙
-            sym (same-step .jobs) ∙ z);
-      };
-      ran = same-step .ran ∙ tab-cong _ _ 0 32 (λ i x y. ran-same (setupIn c) clock (λ i. getD rel i false) (releasedAt c clock) (stateAt c clock) (state-full c clock) rel-at i);
+      walks = record { at-run = next-run; reached = k; at-place = p; idle = λ z. none-left c clock (sym (same-step .jobs) ∙ z) };
+      ran = same-step .ran;
     }
 
     -- what is noted of the slot is what the case has
@@ -147,8 +145,8 @@ module _ (c : Case) (g : Legal c) (clock : ℕ) (more : clock < c .end) (rel : L
     unfolding finishedAt demotedAt missedAt missed
     handed place next p = record {
       at-place = λ i h. rw p (tab-at (λ i. lastPlace (c .trace) next (suc i)) 32 i 0 h);
-      at-fin = λ i h. rw (same-step .finished) (tab-at _ 32 i false h) ∙ finished-same (setupIn c) clock (λ i. getD rel i false) (releasedAt c clock) (stateAt c clock) (state-full c clock) rel-at i;
-      at-dem = λ i h. rw (same-step .demoted) (tab-at _ 32 i false h) ∙ demoted-same (setupIn c) clock (λ i. getD rel i false) (releasedAt c clock) (stateAt c clock) (state-full c clock) rel-at i;
+      at-fin = λ i h. rw (same-step .finished) (tab-at _ 32 i false h);
+      at-dem = λ i h. rw (same-step .demoted) (tab-at _ 32 i false h);
       at-late = λ i h. rw (same-step .late) (tab-at _ 32 i false h) ∙ ap (λ (r : Run). isMissed (suc clock) (jobAt r i)) next-run;
     }
 
@@ -171,11 +169,6 @@ pub same-room : (c : Case) (t u : ℕ) (xs out : List ℕ) → out ≡ roomAt c 
 same-room c t u xs out e =
     ap (λ l. numbers (tab (recordBy c u) 0 (releaseCount (c .trace))) ++ l)
     (rw e (drop-at (numbers (tab (recordBy c t) 0 (releaseCount (c .trace)))) (drop (releaseCount (c .trace) * 3) xs) (releaseCount (c .trace) * 3) (records-long c t)))
-
-pub room-long : (c : Case) (t : ℕ) (xs : List ℕ) → releaseCount (c .trace) * 3 ≤ length xs → length (roomAt c t xs) ≡ length xs
-room-long c t xs h =
-    length-append (numbers (tab (recordBy c t) 0 (releaseCount (c .trace)))) (drop (releaseCount (c .trace) * 3) xs) ∙
-    rw (records-long c t, length-drop (releaseCount (c .trace) * 3) xs) (omega arith)
 
 -- the room that holds the open records holds those of time 0
 pub room-open : (c : Case) → Legal c → (xs out : List ℕ) → out ≡ numbers (tab (λ j. openRecord) 0 (releaseCount (c .trace))) ++ drop (releaseCount (c .trace) * 3) xs

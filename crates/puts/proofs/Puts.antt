@@ -6,7 +6,7 @@ use native.Mathlib.Nat.{add-zero, add-suc, suc-add, zero-add}
 use native.Mathlib.Numerals.{add-one}
 use native.Mathlib.Omega.{arith}
 use lib.ListN.{length, take, drop, set, getD, length-append, length-drop, take-append-drop}
-use lib.Seq.{sets, sets-eq, length-sets, set-comm, length-take-le, take-all, take-suc, take-at, drop-length}
+use lib.Seq.{sets, sets-eq, length-sets, set-comm, length-take-le, take-all, take-suc, drop-length}
 use borrow.Rule.Slice.PartMut.{putMid, postOf, post-is}
 use Rattle.rules.specs.Text.{digitsOf}
 use Rattle.puts.specs.Laid.{Laid}
@@ -83,12 +83,6 @@ laid-length {at} {text} {old} p = ap length (p .bytes) ∙ length-sets old at te
 -- what is laid at the start: the text, and after it what was there
 pub laid-front : {text old new : List ℕ} {end : ℕ} → Laid 0 text old new end → length text ≤ length old → new ≡ text ++ drop (length text) old
 laid-front {text} {old} p h = p .bytes ∙ sets-eq text old 0 (omega arith) ∙ rw (zero-add (length text))
-
--- it is read back
-pub laid-text : {text old new : List ℕ} {end : ℕ} → Laid 0 text old new end → length text ≤ length old → take end new ≡ text
-laid-text {text} {old} {new} {end} p h =
-    let n : length text ≡ end = omega (arith, p .behind) in
-    ap (take end) (laid-front p h) ∙ take-at text (drop (length text) old) end n
 
 -- the last digit of what is left, stored before the others
 pub store-digit : (out : List ℕ) (at w i d : ℕ) → 10 ≤ w → w < 2 ^ 32 → i ≡ at + length (digitsOf w) → d ≡ 48 + w % 10 → sets (set out (i - 1) d) at (digitsOf (w / 10)) ≡ sets out at (digitsOf w)
