@@ -1,5 +1,5 @@
 /*
- * Measures the calls of libabi.a against the plain C of replay.c and text.c, in one process and by turns, so that both meet the same
+ * Measures the calls of libthrumcomb.a against the plain C of replay.c and text.c, in one process and by turns, so that both meet the same
  * machine. Standard input: `repeat L table.. K trace.. procs policy end` and then the bytes of a case text (up to the end).
  * Prints, in the processor time that clock() counts, the C time, Thrumcomb's time and their ratio for the replay, the reader and the
  * writer, whether the answers agree, and the stack that each call of Thrumcomb used.

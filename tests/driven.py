@@ -15,8 +15,9 @@ import tempfile
 import replay
 
 HERE = os.path.dirname(os.path.abspath(__file__))
-EXEC = os.path.join(HERE, "exec")
-PROGRAM = os.path.join(os.path.dirname(HERE), "target", "bin", "drive")
+ROOT = os.path.dirname(HERE)
+EXEC = os.path.join(ROOT, "bin", "exec")
+PROGRAM = os.path.join(ROOT, "target", "bin", "drive")
 
 # The most that the program takes from one input.
 MOST_INPUT = 131_072

@@ -1,4 +1,4 @@
-"""Builds C programs over the archive of the crate abi with the kit's own tools.
+"""Builds C programs over the archive of the crate thrumcomb with the kit's own tools.
 
 They are compiled and linked for the same target as the archive, so nothing has
 to be installed.  The kit has no C headers: the few types that are taken from
@@ -13,8 +13,8 @@ import subprocess
 
 HERE = os.path.dirname(os.path.abspath(__file__))
 ROOT = os.path.dirname(HERE)
-INCLUDE = os.path.join(ROOT, "crates", "abi", "include")
-ARCHIVE = os.path.join(ROOT, "target", "staticlib", "libabi.a")
+INCLUDE = os.path.join(ROOT, "crates", "thrumcomb", "include")
+ARCHIVE = os.path.join(ROOT, "target", "staticlib", "libthrumcomb.a")
 TARGET = "x86_64-unknown-linux-gnu"
 
 HEADERS = {
@@ -25,7 +25,7 @@ HEADERS = {
 
 
 def kit():
-    """The folder of the kit for this machine, found as tests/exec finds it."""
+    """The folder of the kit for this machine, found as bin/exec finds it."""
     home = os.environ.get("RATTLE_HOME")
     if not home:
         rt = shutil.which("rt")
@@ -59,7 +59,7 @@ def build(sources, folder, name, *flags):
         with open(os.path.join(folder, header), "w") as file:
             file.write(text)
     if not archive_is_current():
-        run("rt", "staticlib", "abi")
+        run("rt", "staticlib", "thrumcomb")
     tools = os.path.join(kit(), "toolchain")
     objects = []
     for source in sources:

@@ -12,8 +12,8 @@ import replay
 
 HERE = os.path.dirname(os.path.abspath(__file__))
 ROOT = os.path.dirname(HERE)
-RUNNER = os.path.join(HERE, "exec")
-PROGRAM = os.path.join(ROOT, "target", "bin", "thrumcomb")
+RUNNER = os.path.join(ROOT, "bin", "exec")
+PROGRAM = os.path.join(ROOT, "target", "bin", "program")
 SCRIPT = os.path.join(ROOT, "thrumcomb")
 EXAMPLES = os.path.join(ROOT, "examples")
 
@@ -93,8 +93,8 @@ class OfTheProgram(unittest.TestCase):
     @classmethod
     def setUpClass(cls):
         if not os.access(PROGRAM, os.X_OK):
-            raise AssertionError("target/bin/thrumcomb is missing: "
-                                 "run `rt check thrumcomb` first")
+            raise AssertionError("target/bin/program is missing: "
+                                 "run `rt check program` first")
 
     def assertPrints(self, words, text, lines):
         self.assertEqual(printed(words, text), (lines, b""), (words, text[:2000]))

@@ -222,7 +222,7 @@ class PublicCalls(unittest.TestCase):
 
     def test_every_function_for_c_is_on_the_page(self):
         named = {call for _, _, call in self.calls()}
-        there = re.findall(r'^pub extern "C" fn (\w+)\(', text_of("crates/abi/src/lib.rt"),
+        there = re.findall(r'^pub extern "C" fn (\w+)\(', text_of("crates/thrumcomb/src/lib.rt"),
                            re.MULTILINE)
         self.assertEqual(len(there), 5)
         self.assertLessEqual(set(there), named)
@@ -249,7 +249,7 @@ class Assumed(unittest.TestCase):
             name, colon, others = line.partition("#")[0].partition(":")
             if colon:
                 needs[name.strip()] = others.split()
-        reached, left = set(), ["abi"]
+        reached, left = set(), ["thrumcomb"]
         while left:
             name = left.pop()
             reached.add(name)

@@ -17,7 +17,7 @@ use Rattle.rules.specs.Words.{pick, firstIn}
 use Rattle.rules.specs.Case.{deadline}
 use Rattle.rules.specs.Slot.{Setup, TaskSet, noTask, jobAt, isPresent, leftOf, dueOf, present, isCf, isDemotedNow, readied, demoted, contentionFree, opened, worked, workedJob, demotedNow, lastUnit}
 use Rattle.rules.specs.Replay.{fresh, idleTask}
-use Rattle.bridge.specs.Lists.{tab-at, tab-long}
+use Rattle.lists.specs.Lists.{tab-at, tab-long}
 use Rattle.bridge.specs.Steps.{Full, opened-full, worked-full, readied-at, opened-at, worked-at, readiedJob, judgedJob, openedJob}
 use Rattle.bridge.specs.Jobs.{Stand, slot-stand}
 

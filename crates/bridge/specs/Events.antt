@@ -15,7 +15,7 @@ use Rattle.rules.specs.declared.Job.the-variants.{Idle, Normal, Demoted}
 use Rattle.bridge.specs.Steps.{lowers}
 use Rattle.bridge.specs.Jobs.{kept-opened}
 use Rattle.bridge.specs.Stands.{readyAt, openAt, finished-at, demoted-at, ran-present, next-at}
-use Rattle.bridge.specs.Legal.{Legal}
+use Rattle.legal.specs.Legal.{Legal}
 use Rattle.bridge.specs.Records.{noted}
 use Rattle.bridge.specs.Turn.{lastPlace, Reached, Live, turn-idle, turn-live}
 

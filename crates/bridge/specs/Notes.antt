@@ -13,9 +13,9 @@ use borrow.Author.Tests.{lt-ltb, le-ltb}
 use Rattle.rules.specs.Words.{pick, bit, sum, countIn, tab}
 use Rattle.rules.specs.Case.{Case, releaseCount, nameOf}
 use Rattle.rules.specs.Replay.{finishedAt, missedAt, demotedAt, Record, recordOf, recordBy, numbers, marked}
-use Rattle.bridge.specs.Lists.{tab-long, tab-at, tab-cong, tab-set}
-use Rattle.bridge.specs.Sums.{sum-cong}
-use Rattle.bridge.specs.Legal.{Legal}
+use Rattle.lists.specs.Lists.{tab-long, tab-at, tab-cong, tab-set}
+use Rattle.lists.specs.Sums.{sum-cong}
+use Rattle.legal.specs.Legal.{Legal}
 use Rattle.bridge.specs.Events.{event, entry, turn-event, turn-quiet}
 use Rattle.bridge.specs.Turn.{lastPlace, Reached}
 

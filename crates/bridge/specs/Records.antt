@@ -17,12 +17,12 @@ use Rattle.rules.specs.Replay.{setupIn, releasedIn, releasedAt, idleTask, state
 use Rattle.rules.specs.declared.Job.{Job}
 use Rattle.rules.specs.declared.Job.the-variants.{Idle, Normal, Demoted}
 use Rattle.rules.specs.declared.Task.{Task}
-use Rattle.bridge.specs.Lists.{tab-at}
+use Rattle.lists.specs.Lists.{tab-at}
 use Rattle.bridge.specs.Steps.{lowers, judgedJob}
 use Rattle.bridge.specs.Jobs.{Kept, kept-opened, Stand, written, idle-now}
 use Rattle.bridge.specs.Course.{Sole}
 use Rattle.bridge.specs.Stands.{replayOf, readyAt, openAt, ready, stands, next-at, ran-present, demoted-at}
-use Rattle.bridge.specs.Legal.{Legal, Good}
+use Rattle.legal.specs.Legal.{Legal, Good}
 
 -- ---- the set released at t
 released-yes : (rs : List ℕ) (n t i j : ℕ) → j < n → timeOf rs j ≡ t → nameOf rs j ≡ suc i → releasedIn rs n t i ≡ true

@@ -12,7 +12,7 @@ use Rattle.rules.specs.Slot.{Setup, TaskSet, jobAt, isPresent, leftOf, present,
 use Rattle.rules.specs.Replay.{setupIn, releasedAt, stateFrom, stateAt, finishedAt, demotedAt, ranAt}
 use Rattle.rules.specs.declared.Job.{Job}
 use Rattle.rules.specs.declared.Run.{Run}
-use Rattle.bridge.specs.Lists.{tab-long}
+use Rattle.lists.specs.Lists.{tab-long}
 use Rattle.bridge.specs.Steps.{Full, after-full, readied-at, opened-at, after-at, readiedJob, openedJob, lowers}
 use Rattle.bridge.specs.Jobs.{Stand}
 use Rattle.bridge.specs.Course.{Course, stateIn, demotedIn, finishedIn, Sole, found-stands, left-stands}

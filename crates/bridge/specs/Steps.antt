@@ -11,7 +11,7 @@ use Rattle.rules.specs.declared.Job.{Job}
 use Rattle.rules.specs.declared.Job.the-variants.{Idle, Demoted}
 use Rattle.rules.specs.declared.Task.{Task}
 use Rattle.rules.specs.declared.Run.{Run}
-use Rattle.bridge.specs.Lists.{mapFrom-long, mapAt-at}
+use Rattle.lists.specs.Lists.{mapFrom-long, mapAt-at}
 
 abbrev pub Full : Run → Type 0
 Full r = length (r .tasks) ≡ 32

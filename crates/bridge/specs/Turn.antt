@@ -18,7 +18,7 @@ use Rattle.rules.specs.declared.Job.the-variants.{Idle}
 use Rattle.bridge.specs.Steps.{lowers}
 use Rattle.bridge.specs.Jobs.{kept-opened}
 use Rattle.bridge.specs.Stands.{readyAt, openAt}
-use Rattle.bridge.specs.Legal.{Legal}
+use Rattle.legal.specs.Legal.{Legal}
 use Rattle.bridge.specs.Records.{released-no, taskAt, good-at, sole, never-released, over, noted, future, past, absent-at, live-at}
 
 -- the last of the first k releases that has the name (0 where none has)

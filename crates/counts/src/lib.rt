@@ -7,7 +7,7 @@ ghost use Rattle.rules.specs.Case.{taskCount};
 ghost use Rattle.rules.specs.Counts.{availability, count, freeCounts};
 ghost use Rattle.rules.specs.Answers.{countedAs};
 ghost use Rattle.rules.specs.Calls.{countsAnswer, countsRoom};
-ghost use Rattle.table.specs.Needs.{Sound};
+ghost use Rattle.checks.specs.Needs.{Sound};
 ghost use Rattle.counts.specs.Needs.{Counts};
 use rules::Counted;
 
@@ -73,7 +73,7 @@ pub fn counts(procs: u32, table: &[u32], out: &mut [u32]) -> Counted
     ensures { λ r. ⌜ (countedAs r ≡ countsAnswer procs (now (table .entry)) (now (out .entry))) × (now (out .exit) ≡ countsRoom procs (now (table .entry)) (now (out .entry))) ⌝ }
 {
     let room = out.len();
-    let f = table::counts_fault(procs, table, room);
+    let f = checks::counts_fault(procs, table, room);
     let number = f.number;
     let place = f.place;
     if number != 0 {

@@ -11,10 +11,10 @@ use Rattle.rules.specs.Case.{Case, releaseCount}
 use Rattle.rules.specs.Refusals.{noFault, caseFault, roomFault, slotFault, replayFault, runningFault, Accepted}
 use Rattle.rules.specs.Replay.{records, recordBy, numbers, marked}
 use Rattle.rules.specs.Calls.{roomAfter}
-use Rattle.bridge.specs.Lists.{tab-long}
-use Rattle.bridge.specs.Legal.{legal, next-clear, unless-clear}
+use Rattle.lists.specs.Lists.{tab-long}
+use Rattle.legal.specs.Legal.{legal, next-clear, unless-clear}
 use Rattle.bridge.specs.Notes.{numbers-long, marked-in}
-use Rattle.table.specs.Needs.{Sound}
+use Rattle.checks.specs.Needs.{Sound}
 
 pub sound : (c : Case) → Accepted c → Sound (c .table)
 sound c ok = let g = legal c ok in record { few = g .tasks-few; good = g .good }

@@ -15,10 +15,10 @@ use Rattle.rules.specs.Words.{tab, firstIn}
 use Rattle.rules.specs.Case.{Case, taskCount, deadline, releaseCount, timeOf, nameOf}
 use Rattle.rules.specs.Slot.{TaskSet, Setup, jobAt, isMissed, isCf, isDemotedNow, judged, joinedTask, joined, readied, demoted, lowered, opened, after, ran, finished, missed, demotedNow, jobsNow}
 use Rattle.rules.specs.Replay.{setupIn, releasedIn, releasedAt, fresh, stateFrom, stateAt, ranAt, finishedAt, missedAt, demotedAt, slotsBy, finishBy, demotionBy, verdictBy, recordBy, numbers}
-use Rattle.bridge.specs.Lists.{mapFrom-cong, tab-long, tab-at, tab-cong}
+use Rattle.lists.specs.Lists.{mapFrom-cong, tab-long, tab-at, tab-cong}
 use Rattle.bridge.specs.Steps.{Full, judged-full}
 use Rattle.bridge.specs.Stands.{state-full, state-next}
-use Rattle.bridge.specs.Legal.{Legal}
+use Rattle.legal.specs.Legal.{Legal}
 use Rattle.bridge.specs.Records.{taskAt, good-at, at-first}
 use Rattle.bridge.specs.Turn.{lastPlace, Reached}
 use Rattle.bridge.specs.Events.{turn-event}

@@ -10,8 +10,8 @@ use lib.Pow.{pow-mono}
 use lib.ListN.{getD}
 use Rattle.rules.specs.Words.{bit, sum, tab}
 use Rattle.rules.specs.Slot.{TaskSet, setNumber}
-use Rattle.bridge.specs.Lists.{tab-at}
-use Rattle.bridge.specs.Sums.{sum-cong}
+use Rattle.lists.specs.Lists.{tab-at}
+use Rattle.lists.specs.Sums.{sum-cong}
 
 pub record Doubling (s : TaskSet) (i power number : ℕ) : Type 0 where
   pub within : i ≤ 32

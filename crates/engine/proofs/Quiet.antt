@@ -15,14 +15,14 @@ use Rattle.rules.specs.Words.{pick, bit, sum, countIn, tab}
 use Rattle.rules.specs.Case.{Case, releaseCount, timeOf}
 use Rattle.rules.specs.Slot.{Setup, TaskSet, noTask, runOf, withJob, jobAt, isPresent, present, eachTask, isCf, judged, joined, demotedTask, demoted, readied, jobsNow, contentionFree, loweredTask, lowered, opened, chosen, workedTask, worked, after}
 use Rattle.rules.specs.Replay.{setupIn, releasedAt, stateAt, ranAt, recordBy}
-use Rattle.bridge.specs.Lists.{tab-cong}
+use Rattle.lists.specs.Lists.{tab-cong}
 use Rattle.bridge.specs.Steps.{Full, demotedJob, readied-at, demoted-at, readied-full, lowers}
 use Rattle.bridge.specs.Jobs.{kept-demoted, kept-opened, idle-now}
 use Rattle.bridge.specs.Stands.{state-full, state-next, readyAt, openAt, ran-present, next-at}
-use Rattle.bridge.specs.Legal.{Legal}
+use Rattle.legal.specs.Legal.{Legal}
 use Rattle.bridge.specs.Records.{taskAt, released-no}
 use Rattle.bridge.specs.Turn.{Reached, turn-idle}
-use Rattle.bridge.specs.Fuse.{keep-all, same-each}
+use Rattle.lists.specs.Fuse.{keep-all, same-each}
 use Rattle.engine.specs.Walks.{Walking, Rests}
 
 -- where none of the first n passes, none of them does

@@ -13,7 +13,7 @@ use Rattle.bridge.specs.Events.{entry}
 use lib.Seq.{drop-cons}
 use Rattle.rules.specs.Words.{tab, sum, countIn}
 use Rattle.rules.specs.Replay.{Record, numbers}
-use Rattle.bridge.specs.Lists.{tab-long, tab-snoc}
+use Rattle.lists.specs.Lists.{tab-long, tab-snoc}
 use Rattle.bridge.specs.Notes.{numbers-long, put3, eventAt, noteOne, noteTo}
 use Rattle.engine.specs.Walks.{Uneventful, openRecord}
 

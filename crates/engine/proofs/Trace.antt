@@ -14,7 +14,7 @@ use borrow.Author.Tests.{eqb-true, eq-eqb, ne-eqb}
 use Rattle.rules.specs.Words.{tab}
 use Rattle.rules.specs.Case.{releaseCount, timeOf, nameOf}
 use Rattle.rules.specs.Replay.{releasedIn}
-use Rattle.bridge.specs.Lists.{tab-cong, tab-set}
+use Rattle.lists.specs.Lists.{tab-cong, tab-set}
 use Rattle.bridge.specs.Turn.{lastPlace, Reached}
 use Rattle.bridge.specs.Records.{released-no}
 use Rattle.engine.specs.Walks.{Orderly, places, releases}

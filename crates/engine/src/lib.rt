@@ -339,7 +339,7 @@ pub fn replay(
     ensures { λ r. ⌜ (replayedAs r ≡ replayAnswer (caseOf procs policy (now (table .entry)) end (now (trace .entry))) (now (out .entry))) × (now (out .exit) ≡ replayRoom (caseOf procs policy (now (table .entry)) end (now (trace .entry))) (now (out .entry))) ⌝ }
 {
     let room = out.len();
-    let f = table::replay_fault(procs, policy, table, end, trace, room);
+    let f = checks::replay_fault(procs, policy, table, end, trace, room);
     let number = f.number;
     let place = f.place;
     if number != 0 {
@@ -384,7 +384,7 @@ pub fn running(
 ) -> Running
     ensures { λ r. ⌜ runningAs r ≡ runningAnswer (caseOf procs policy (now (table .entry)) end (now (trace .entry))) slot ⌝ }
 {
-    let f = table::running_fault(procs, policy, table, end, trace, slot);
+    let f = checks::running_fault(procs, policy, table, end, trace, slot);
     let number = f.number;
     let place = f.place;
     if number != 0 {

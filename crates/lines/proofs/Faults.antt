@@ -11,8 +11,8 @@ use Rattle.rules.specs.Refusals.{faultOf, noFault, unless, orNext}
 use Rattle.rules.specs.Reader.{kindOf, mayFollow, mayStop, linesFault}
 use Rattle.rules.specs.declared.Fault.{Fault}
 use Rattle.rules.specs.declared.Line.{Line}
-use Rattle.bridge.specs.Firsts.{next-none}
-use Rattle.bridge.specs.Legal.{next-clear}
+use Rattle.legal.specs.Firsts.{next-none}
+use Rattle.legal.specs.Legal.{next-clear}
 use Rattle.lines.specs.Held.{lineFault}
 
 -- nothing follows a fault

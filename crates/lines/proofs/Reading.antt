@@ -11,7 +11,7 @@ use Rattle.rules.specs.Refusals.{unless}
 use Rattle.rules.specs.Reader.{kindOf, mayStop, linesOf, linesFault, withLines, caseIn}
 use Rattle.rules.specs.declared.Fault.{Fault}
 use Rattle.rules.specs.declared.Line.{Line}
-use Rattle.roundtrip.specs.LinesOf.{linesOf-nil}
+use Rattle.texts.specs.LinesOf.{linesOf-nil}
 use Rattle.lines.specs.declared.Head.{Head}
 use Rattle.lines.specs.Held.{tableRoom, traceRoom, clip, lineFault, nextSays, noHead, headWith, rowNumbers, releaseNumbers, Whole, Added, keptCase, Gathers}
 use Rattle.lines.proofs.Unread.{lines-next}

@@ -8,7 +8,7 @@ use lib.Seq.{drop-drop}
 use Rattle.rules.specs.Text.{newlineByte, upTo, lineOf, afterLine}
 use Rattle.rules.specs.Reader.{lineSays, linesOf}
 use Rattle.rules.specs.declared.Line.the-variants.{Bad}
-use Rattle.roundtrip.specs.LinesOf.{linesOf-some}
+use Rattle.texts.specs.LinesOf.{linesOf-some}
 use Rattle.scan.proofs.Parts.{drop-past, none-past, has-some, has-none, upTo-le}
 use Rattle.lines.specs.Held.{nextSays}
 

@@ -71,12 +71,12 @@ fn line_fault(before: u32, kind: u32, n: u32) -> Fault
     ensures { λ r. ⌜ r ≡ lineFault before kind n ⌝ }
 {
     if kind == 0 {
-        return table::fault(2, n);
+        return checks::fault(2, n);
     }
     if scan::may_follow(before, kind) {
-        return table::fault(0, 0);
+        return checks::fault(0, 0);
     }
-    table::fault(3, n)
+    checks::fault(3, n)
 }
 
 // A text that stops after a line of that kind lacks line n, unless it may stop there.
@@ -84,12 +84,12 @@ fn stop_fault(before: u32, n: u32) -> Fault
     ensures { λ r. ⌜ r ≡ unless (mayStop before) 3 n ⌝ }
 {
     if before == 4 {
-        return table::fault(0, 0);
+        return checks::fault(0, 0);
     }
     if before == 5 {
-        return table::fault(0, 0);
+        return checks::fault(0, 0);
     }
-    table::fault(3, n)
+    checks::fault(3, n)
 }
 
 // The head before the first line; without a policy line the policy is EDF.

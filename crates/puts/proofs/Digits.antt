@@ -5,7 +5,7 @@ use Prim.Native.Nat.{ℕ, _+_, _/_, _%_, _^_, _≤_, _<_}
 use native.Mathlib.Omega.{arith}
 use lib.ListN.{length, length-append}
 use Rattle.rules.specs.Text.{digitsOf}
-use Rattle.roundtrip.specs.Digits.{digits-step}
+use Rattle.texts.specs.Digits.{digits-step}
 
 pub step : (n : ℕ) → 10 ≤ n → n < 2 ^ 32 → digitsOf n ≡ digitsOf (n / 10) ++ ((48 + n % 10) ∷ [])
 step n h l = digits-step n h (omega arith)

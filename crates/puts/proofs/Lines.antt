@@ -11,7 +11,7 @@ use lib.Seq.{take-suc}
 use Rattle.rules.specs.Words.{pick}
 use Rattle.rules.specs.Text.{digitsOf, policyName, edfWord, edfCfWord}
 use Rattle.rules.specs.Writer.{moreFields, lineText}
-use Rattle.roundtrip.specs.Digits.{at-most-ten}
+use Rattle.texts.specs.Digits.{at-most-ten}
 use Rattle.puts.specs.Fields.{fieldsText, numberFields}
 
 -- fields, and behind them those that end the line

@@ -14,8 +14,8 @@ use Rattle.rules.specs.Refusals.{noFault, unless, orNext, roomFault, caseFault}
 use Rattle.rules.specs.Answers.{Answer, result, refusal, settled, kept}
 use Rattle.rules.specs.Reader.{linesOf, linesFault, caseIn, lengthFault, textFault, readFault, caseValues, readAnswer, readTasks, readReleases}
 use Rattle.rules.specs.declared.Fault.{Fault}
-use Rattle.bridge.specs.Firsts.{next-none, next-some}
-use Rattle.bridge.specs.Legal.{next-clear, unless-clear}
+use Rattle.legal.specs.Firsts.{next-none, next-some}
+use Rattle.legal.specs.Legal.{next-clear, unless-clear}
 use Rattle.reader.specs.Start.{startFault}
 
 -- what follows a test is asked only where it finds nothing

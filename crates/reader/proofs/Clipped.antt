@@ -11,7 +11,7 @@ use borrow.Author.Tests.{lt-leb}
 use Rattle.rules.specs.Case.{Case, caseOf, taskCount, releaseCount}
 use Rattle.rules.specs.Refusals.{faultOf, orNext, tableFault, traceFault, caseFault, Accepted}
 use Rattle.rules.specs.declared.Fault.{Fault}
-use Rattle.bridge.specs.Legal.{legal}
+use Rattle.legal.specs.Legal.{legal}
 use Rattle.lines.specs.Held.{tableRoom, traceRoom, clip}
 
 -- with more tasks, or releases, than may stand nothing after that is asked

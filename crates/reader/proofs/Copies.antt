@@ -5,7 +5,7 @@ use Prim.Native.Nat.{ℕ, _+_, _≤_, _<_}
 use native.Mathlib.Omega.{arith}
 use lib.ListN.{length, drop, getD, set, length-append, length-drop, length-set, List·getD-append}
 use lib.Seq.{take-append-seam}
-use Rattle.bridge.specs.Fill.{Filling, filling-none, filling-store}
+use Rattle.lists.specs.Fill.{Filling, filling-none, filling-store}
 
 -- the numbers, and after them what the room held
 abbrev put : List ℕ → List ℕ → List ℕ

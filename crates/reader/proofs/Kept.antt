@@ -12,7 +12,7 @@ use Rattle.rules.specs.Reader.{caseIn}
 use Rattle.rules.specs.declared.Fault.{Fault}
 use Rattle.lines.specs.declared.Gathered.{Gathered}
 use Rattle.lines.specs.Held.{keptCase, Whole, Gathers}
-use Rattle.bridge.specs.Legal.{legal}
+use Rattle.legal.specs.Legal.{legal}
 use Rattle.rules.specs.Answers.{result}
 use Rattle.reader.specs.Start.{startFault}
 use Rattle.reader.proofs.Answered.{Answers, at-none, enough-room, reads}

@@ -14,15 +14,15 @@ fn start_fault(text: usize, tasks: usize, releases: usize) -> Fault
     ensures { λ r. ⌜ r ≡ startFault text tasks releases ⌝ }
 {
     if tasks < 96 {
-        return table::fault(13, 0);
+        return checks::fault(13, 0);
     }
     if releases < 4000 {
-        return table::fault(13, 0);
+        return checks::fault(13, 0);
     }
     if 60000 < text {
-        return table::fault(1, 0);
+        return checks::fault(1, 0);
     }
-    table::fault(0, 0)
+    checks::fault(0, 0)
 }
 
 // Copies numbers to the front of a room; those after them stay.
@@ -69,7 +69,7 @@ pub fn read(text: &[u8], tasks: &mut [u32], releases: &mut [u32]) -> Taken
     let h = g.head;
     let t = g.tasks;
     let r = g.releases;
-    let d = table::case_fault(h.procs, h.policy, &table[0..t], h.end, &trace[0..r]);
+    let d = checks::case_fault(h.procs, h.policy, &table[0..t], h.end, &trace[0..r]);
     let kd = d.number;
     if kd != 0 {
         return refused(d);

@@ -12,7 +12,7 @@ use Rattle.rules.specs.Case.{Case, taskCount, releaseCount}
 use Rattle.rules.specs.Replay.{metJobs, missedJobs, openJobs}
 use Rattle.rules.specs.Text.{digitsOf}
 use Rattle.rules.specs.Report.{metWord, missedWord, openWord, verdictName, finishField, demotionField, runLine, totalLine}
-use Rattle.roundtrip.specs.Digits.{at-most-ten}
+use Rattle.texts.specs.Digits.{at-most-ten}
 use Rattle.puts.specs.Fields.{numberFields, numberLine, wordOf}
 use Rattle.puts.proofs.Lines.{line-length, numbers-room, numbers-append}
 use Rattle.report.specs.Lines.{lineRoom, runText, totalText, halved, memberAt, membersOf}

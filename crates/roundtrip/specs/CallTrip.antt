@@ -13,9 +13,9 @@ use Rattle.rules.specs.Refusals.{orNext, roomFault, caseFault, Accepted}
 use Rattle.rules.specs.Answers.{result}
 use Rattle.rules.specs.Reader.{caseIn, textFault, readFault, caseValues, readAnswer, readTasks, readReleases}
 use Rattle.rules.specs.Writer.{caseText, writeFault, writeAnswer, writeBytes}
-use Rattle.bridge.specs.Lists.{take-first}
-use Rattle.bridge.specs.Legal.{next-clear, Legal, legal}
-use Rattle.bridge.specs.Settled.{settled-clear, kept-new, settled-result}
+use Rattle.lists.specs.Lists.{take-first}
+use Rattle.legal.specs.Legal.{next-clear, Legal, legal}
+use Rattle.legal.specs.Settled.{settled-clear, kept-new, settled-result}
 use Rattle.roundtrip.specs.CaseLines.{text-fits}
 use Rattle.roundtrip.specs.RoundTrip.{case-written, no-fault-written, withPolicy, text-read, case-accepted}
 

@@ -13,9 +13,9 @@ use Rattle.rules.specs.Case.{Case, caseOf, taskCount, releaseCount}
 use Rattle.rules.specs.Refusals.{noFault, Accepted}
 use Rattle.rules.specs.Reader.{linesFault, noCase, withLine, withLines}
 use Rattle.rules.specs.Writer.{procsText, policyText, taskText, endText, releaseText, caseText}
-use Rattle.bridge.specs.Lists.{tab-long}
-use Rattle.bridge.specs.Legal.{Legal, legal}
-use Rattle.roundtrip.specs.Fields.{All}
+use Rattle.lists.specs.Lists.{tab-long}
+use Rattle.legal.specs.Legal.{Legal, legal}
+use Rattle.texts.specs.Fields.{All}
 use Rattle.roundtrip.specs.LineTrip.{wordOf, fieldsIn, lineBytes, Below}
 use Rattle.roundtrip.specs.Lines.{textOf, textOf-append, textOf-tab}
 use Rattle.roundtrip.specs.Lengths.{textOf-long}

@@ -9,9 +9,9 @@ use Rattle.rules.specs.declared.Line.{Line}
 use Rattle.rules.specs.declared.Line.the-variants.{Bad, Procs, Policy, Row, End, Release}
 use Rattle.rules.specs.Text.{tabByte, digitsOf, policyName, edfWord, edfCfWord}
 use Rattle.rules.specs.Writer.{moreFields, lineText}
-use Rattle.bridge.specs.Lists.{picked}
-use Rattle.roundtrip.specs.Digits.{digits-few}
-use Rattle.roundtrip.specs.Fields.{All}
+use Rattle.lists.specs.Lists.{picked}
+use Rattle.texts.specs.Digits.{digits-few}
+use Rattle.texts.specs.Fields.{All}
 use Rattle.roundtrip.specs.LineTrip.{wordOf, fieldsIn, lineBytes, Below}
 use Rattle.roundtrip.specs.Lines.{textOf}
 

@@ -12,9 +12,9 @@ use Rattle.rules.specs.declared.Line.the-variants.{Bad, Procs, Policy, Row, End
 use Rattle.rules.specs.Text.{newlineByte, tabByte, same, has, fieldOf, afterField, digitsOf, policyName, procsWord, policyWord, taskWord, endWord, releaseWord, edfWord, edfCfWord}
 use Rattle.rules.specs.Reader.{withNumber, oneNumber, twoNumbers, threeNumbers, policyIn, wordKind, fieldsSay, lineSays, kindOf}
 use Rattle.rules.specs.Writer.{lineText}
-use Rattle.bridge.specs.Lists.{picked}
-use Rattle.roundtrip.specs.Digits.{digits-some, written-reads, reads-written}
-use Rattle.roundtrip.specs.Fields.{same-true, upTo-seam, upTo-none, past-seam, Plain, digits-plain, parted, All, line-parted, parted-cons}
+use Rattle.lists.specs.Lists.{picked}
+use Rattle.texts.specs.Digits.{digits-some, written-reads, reads-written}
+use Rattle.texts.specs.Fields.{same-true, upTo-seam, upTo-none, past-seam, Plain, digits-plain, parted, All, line-parted, parted-cons}
 
 -- ---- what is written of what a line says
 -- its word

@@ -12,8 +12,8 @@ use Rattle.rules.specs.declared.Line.the-variants.{Bad}
 use Rattle.rules.specs.Text.{newlineByte, has, lineOf, afterLine}
 use Rattle.rules.specs.Reader.{lineSays, linesIn, linesOf}
 use Rattle.rules.specs.Writer.{joinedText}
-use Rattle.roundtrip.specs.Fields.{All, parted-no-newline}
-use Rattle.roundtrip.specs.LinesOf.{line-cut, afterLine-less, lineOf-cons, afterLine-cons, linesOf-nil, linesOf-cons}
+use Rattle.texts.specs.Fields.{All, parted-no-newline}
+use Rattle.texts.specs.LinesOf.{line-cut, afterLine-less, lineOf-cons, afterLine-cons, linesOf-nil, linesOf-cons}
 use Rattle.roundtrip.specs.LineTrip.{wordOf, fieldsIn, lineBody, lineBytes, bytes-body, Said, word-plain, fields-plain, Below, written-says, says-written}
 
 -- ---- the text of lines

@@ -14,7 +14,7 @@ use Rattle.rules.specs.declared.Line.{Line}
 use Rattle.rules.specs.declared.Line.the-variants.{Bad, Procs, Policy, Row, End, Release}
 use Rattle.rules.specs.Case.{Case, caseOf, period, execution, deadline, timeOf, nameOf}
 use Rattle.rules.specs.Reader.{kindOf, withLine, withLines}
-use Rattle.roundtrip.specs.Fields.{All}
+use Rattle.texts.specs.Fields.{All}
 
 -- the lines of a table and of a trace
 unfoldable pub rowAt : List ℕ → ℕ → Line

@@ -12,8 +12,8 @@ use Rattle.rules.specs.declared.Line.{Line}
 use Rattle.rules.specs.declared.Line.the-variants.{Procs, Policy, End}
 use Rattle.rules.specs.Refusals.{noFault, unless, orNext}
 use Rattle.rules.specs.Reader.{kindOf, mayFollow, mayStop, linesFault}
-use Rattle.bridge.specs.Legal.{unless-clear, next-clear}
-use Rattle.roundtrip.specs.Fields.{All}
+use Rattle.legal.specs.Legal.{unless-clear, next-clear}
+use Rattle.texts.specs.Fields.{All}
 use Rattle.roundtrip.specs.LineTrip.{Said}
 use Rattle.roundtrip.specs.Listed.{Kind, is-procs, is-policy, is-end}
 

@@ -18,7 +18,7 @@ use Rattle.rules.specs.Refusals.{noFault, orNext, caseFault, Accepted}
 use Rattle.rules.specs.Text.{newlineByte, lineOf, afterLine, fieldOf}
 use Rattle.rules.specs.Reader.{wordKind, linesOf, kindOf, linesFault, policyWhenAbsent, noCase, withLine, withLines, caseIn, lengthFault, textFault}
 use Rattle.rules.specs.Writer.{policyText, caseText}
-use Rattle.bridge.specs.Legal.{next-clear, legal}
+use Rattle.legal.specs.Legal.{next-clear, legal}
 use Rattle.roundtrip.specs.LineTrip.{wordOf, fieldsIn, lineBytes, body-kind}
 use Rattle.roundtrip.specs.Lines.{textOf, textOf-cons, lineOf-text, afterLine-text, lines-written, lines-read}
 use Rattle.roundtrip.specs.Orders.{all-said, body-tail, Ordered, ordered-of}

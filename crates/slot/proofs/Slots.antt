@@ -12,10 +12,10 @@ use Rattle.rules.specs.declared.Job.{Job}
 use Rattle.rules.specs.declared.Job.the-variants.{Idle, Normal, Demoted}
 use Rattle.rules.specs.declared.Task.{Task}
 use Rattle.rules.specs.declared.Run.{Run}
-use Rattle.bridge.specs.Lists.{mapAt-at, tab-cong}
+use Rattle.lists.specs.Lists.{mapAt-at, tab-cong}
 use Rattle.bridge.specs.Steps.{Full, demoted-full, readied-full}
-use Rattle.bridge.specs.Sums.{sum-cong}
-use Rattle.bridge.specs.Fuse.{fuse, keep-all, same-each}
+use Rattle.lists.specs.Sums.{sum-cong}
+use Rattle.lists.specs.Fuse.{fuse, keep-all, same-each}
 use Rattle.slot.specs.Queues.{Queued, limitOf}
 use Rattle.slot.specs.Passes.{Stirs, calmedJob, endedJob, endedTask, runsBy, Works}
 use Rattle.slot.specs.Stepped.{Stepped}

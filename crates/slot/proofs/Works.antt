@@ -12,10 +12,10 @@ use Rattle.rules.specs.Slot.{TaskSet, noTask, runOf, jobAt, isPresent, leftOf, 
 use Rattle.rules.specs.declared.Job.the-variants.{Idle}
 use Rattle.rules.specs.declared.Task.{Task}
 use Rattle.rules.specs.declared.Run.{Run}
-use Rattle.bridge.specs.Lists.{mapAt-at, tab-cong}
+use Rattle.lists.specs.Lists.{mapAt-at, tab-cong}
 use Rattle.bridge.specs.Steps.{Full}
 use Rattle.bridge.specs.Jobs.{idle-now}
-use Rattle.bridge.specs.Fill.{Filling, filling-at, each-none, each-store, each-keep, filling-all}
+use Rattle.lists.specs.Fill.{Filling, filling-at, each-none, each-store, each-keep, filling-all}
 use Rattle.slot.specs.Queues.{Keyed}
 use Rattle.slot.specs.Passes.{endedTask, runsBy, Works}
 use Rattle.slot.proofs.Marks.{nobody, Marking, mark-none, mark-store, mark-keep, mark-all}

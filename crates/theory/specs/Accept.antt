@@ -16,8 +16,9 @@ use Rattle.rules.specs.Slot.{jobAt, isDemoted}
 use Rattle.rules.specs.Replay.{releasedIn, releasedAt, stateAt, slotsBy, finishBy, demotionBy}
 use Rattle.bridge.specs.Course.{Course, finishIn, demotionIn}
 use Rattle.bridge.specs.Stands.{replayOf, replay-state, replay-finished, replay-demoted}
-use Rattle.bridge.specs.Legal.{Legal, next-clear, and-left, and-right}
-use Rattle.bridge.specs.Firsts.{next-none}
+use Rattle.legal.specs.Legal.{Legal, next-clear}
+use Rattle.lists.specs.Tests.{and-left, and-right}
+use Rattle.legal.specs.Firsts.{next-none}
 use Rattle.bridge.specs.Jobs.{Stand}
 use Rattle.bridge.specs.Records.{taskAt, sole}
 use Rattle.theory.specs.Counting.{first-cong}

@@ -9,8 +9,8 @@ use native.Mathlib.Omega.{arith}
 use lib.Dec.{eqb, ltb, leb}
 use borrow.Author.Tests.{eqb-true, eq-eqb, le-leb, lt-leb, lt-ltb, le-ltb}
 use Rattle.rules.specs.Words.{bit, sum, countIn, orElse, firstIn}
-use Rattle.bridge.specs.Legal.{and-left, and-right}
-use Rattle.bridge.specs.Sums.{bit-le, sum-mono, sum-cong, sum-add, sum-mul, sum-const}
+use Rattle.lists.specs.Tests.{and-left, and-right}
+use Rattle.lists.specs.Sums.{bit-le, sum-mono, sum-cong, sum-add, sum-mul, sum-const}
 
 pub and-both : (a b : Bool) → a ≡ true → b ≡ true → (a && b) ≡ true
 and-both a b p q = rw (p, q)

@@ -18,7 +18,7 @@ use Rattle.rules.specs.Replay.{stateAt, contentionFreeAt, finishBy, demotionBy,
 use Rattle.bridge.specs.Jobs.{Stand}
 use Rattle.bridge.specs.Course.{Course, contentionFreeIn, finishedIn, finishIn, demotionIn}
 use Rattle.bridge.specs.Stands.{replayOf}
-use Rattle.bridge.specs.Legal.{Legal, legal}
+use Rattle.legal.specs.Legal.{Legal, legal}
 use Rattle.bridge.specs.Records.{taskAt, sole}
 use Rattle.theory.specs.Counting.{count-cong, first-in}
 use Rattle.theory.specs.Lawful.{Lawful, Attends, replay-free, replay-attends}

@@ -15,7 +15,7 @@ use Rattle.rules.specs.Replay.{setupIn, releasedAt, stateAt, ranAt}
 use Rattle.bridge.specs.Steps.{openedJob, judgedJob, lowers}
 use Rattle.bridge.specs.Stands.{readyAt, openAt, open-at, next-at}
 use Rattle.bridge.specs.Records.{at-first}
-use Rattle.bridge.specs.Legal.{and-right}
+use Rattle.lists.specs.Tests.{and-right}
 use Rattle.theory.specs.Counting.{and-both, count-mono}
 
 -- the job a under EDF stands for the job b under EDF-CF

@@ -16,7 +16,7 @@ use Rattle.rules.specs.Case.{taskCount, period, deadline}
 use Rattle.rules.specs.Counts.{availability, availabilities, count}
 use Rattle.rules.specs.Slot.{jobAt, isPresent, dueOf, isMissed, contentionFree, workedJob, lastUnit}
 use Rattle.bridge.specs.Steps.{judgedJob}
-use Rattle.bridge.specs.Sums.{sum-split, sum-mono, sum-const, sum-swap}
+use Rattle.lists.specs.Sums.{sum-split, sum-mono, sum-const, sum-swap}
 use Rattle.bridge.specs.Course.{Course, stateIn, contentionFreeIn, foundIn, openIn, course-first, next-in}
 use Rattle.theory.specs.Counting.{count-cong, count-mono, count-none, over-count, count-both}
 use Rattle.theory.specs.Window.{span-in, spanned, window}

@@ -14,7 +14,7 @@ use Rattle.rules.specs.Refusals.{orNext, firstOf, procsFault, policyFault, tabl
 use Rattle.rules.specs.Slot.{present, judged, joined, demoted, jobsNow, contentionFree, lowered, opened, jobBefore, rank, chosen, worked, after, ran, finished, demotedNow}
 use Rattle.rules.specs.Replay.{setupIn, releasedIn, releasedAt, stateFrom, stateAt, ranAt, finishedAt, demotedAt, contentionFreeAt, slotsBy, finishBy, demotionBy, verdictBy, recordOf, recordBy}
 use Rattle.bridge.specs.Course.{Course, stateIn, contentionFreeIn, demotedIn, finishedIn, finishIn, demotionIn}
-use Rattle.bridge.specs.Legal.{legal}
+use Rattle.legal.specs.Legal.{legal}
 use Rattle.theory.specs.Lawful.{Lawful, Attends}
 use Rattle.theory.specs.Accept.{lawful}
 

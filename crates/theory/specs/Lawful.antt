@@ -12,7 +12,7 @@ use Rattle.bridge.specs.Steps.{readied-full, readied-at, demoted-at, demotedJob
 use Rattle.bridge.specs.Jobs.{Kept, kept-demoted, kept-opened}
 use Rattle.bridge.specs.Course.{Course, stateIn, openedIn, countedIn, contentionFreeIn, foundIn, openIn, course-full, open-in}
 use Rattle.bridge.specs.Stands.{replayOf, replay-state}
-use Rattle.bridge.specs.Legal.{Good}
+use Rattle.legal.specs.Legal.{Good}
 use Rattle.theory.specs.Counting.{count-cong}
 use Rattle.theory.specs.Order.{chosen-all}
 

@@ -14,7 +14,7 @@ use Rattle.rules.specs.Refusals.{Accepted}
 use Rattle.rules.specs.Slot.{jobAt, isDemoted, dueOf, present, readied, demoted, jobsNow, opened, ran}
 use Rattle.rules.specs.Replay.{setupIn, releasedAt, stateAt, closing, ranAt, finishedAt, missedAt, slotsBy, finishBy, verdictBy, recordBy, metJobs, missedJobs, openJobs}
 use Rattle.bridge.specs.Stands.{replayOf, replay-state}
-use Rattle.bridge.specs.Legal.{legal}
+use Rattle.legal.specs.Legal.{legal}
 use Rattle.bridge.specs.Records.{taskAt}
 use Rattle.theory.specs.Counting.{first-in}
 use Rattle.theory.specs.Order.{chosen-exactly, demoted-last}

@@ -16,3 +16,4 @@ pub mod Past
 pub mod Endings
 pub mod Laws
 pub mod Returned
+pub mod Decided

@@ -14,7 +14,7 @@ use Rattle.rules.specs.declared.Job.the-variants.{Idle, Normal, Demoted}
 use Rattle.rules.specs.declared.Run.{Run}
 use Rattle.rules.specs.Words.{countIn}
 use Rattle.rules.specs.Slot.{Setup, jobAt, isPresent, isDemoted, kind, dueOf, inTurn, present, jobsNow, jobBefore, comesBefore, rank, chosen}
-use Rattle.bridge.specs.Legal.{and-left, and-right}
+use Rattle.lists.specs.Tests.{and-left, and-right}
 use Rattle.theory.specs.Counting.{and-both, count-lt, ranked}
 
 -- ---- one key of the order

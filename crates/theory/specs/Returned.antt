@@ -13,11 +13,11 @@ use Rattle.rules.specs.Refusals.{caseFault, replayFault, Accepted}
 use Rattle.rules.specs.Replay.{contentionFreeAt, recordBy, records, numbers}
 use Rattle.rules.specs.Answers.{result, replayedAs}
 use Rattle.rules.specs.Calls.{roomAfter, replayAnswer, replayRoom}
-use Rattle.bridge.specs.Legal.{next-clear}
+use Rattle.legal.specs.Legal.{next-clear}
 use Rattle.bridge.specs.Records.{taskAt}
 use Rattle.bridge.specs.Notes.{held-verdict, held-finish, held-demotion}
-use Rattle.bridge.specs.Settled.{result-clear, kept-new}
-use Rattle.bridge.specs.Decided.{Replays}
+use Rattle.legal.specs.Settled.{result-clear, kept-new}
+use Rattle.theory.specs.Decided.{Replays}
 use Rattle.theory.specs.Demand3.{dueAt, Judged, free-slots, demoted-meets, edf-met-stays-met}
 
 -- the three numbers that a room holds for release j

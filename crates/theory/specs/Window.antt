@@ -9,7 +9,7 @@ use native.Mathlib.Omega.{arith}
 use lib.Dec.{leb, ltb}
 use borrow.Author.Tests.{le-leb, lt-leb, lt-ltb, le-ltb}
 use Rattle.rules.specs.Words.{sum, bit, countIn}
-use Rattle.bridge.specs.Sums.{sum-split, sum-cong, sum-const}
+use Rattle.lists.specs.Sums.{sum-split, sum-cong, sum-const}
 use Rattle.rules.specs.Counts.{availability}
 use Rattle.theory.specs.Avail.{avail-lip, avail-mono, avail-period, avail-min}
 

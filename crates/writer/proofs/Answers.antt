@@ -10,8 +10,8 @@ use Rattle.rules.specs.Case.{Case}
 use Rattle.rules.specs.Refusals.{noFault, roomFault, caseFault, Accepted}
 use Rattle.rules.specs.Answers.{refusal, result, settled, kept}
 use Rattle.rules.specs.Writer.{caseText, writeFault, writeAnswer, writeBytes}
-use Rattle.bridge.specs.Firsts.{next-none, next-some}
-use Rattle.bridge.specs.Legal.{legal}
+use Rattle.legal.specs.Firsts.{next-none, next-some}
+use Rattle.legal.specs.Legal.{legal}
 use Rattle.puts.specs.Laid.{Laid}
 use Rattle.puts.proofs.Puts.{laid-front}
 use Rattle.writer.specs.Rows.{WholeRows}

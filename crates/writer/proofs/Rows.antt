@@ -11,7 +11,7 @@ use Rattle.rules.specs.Words.{tab}
 use Rattle.rules.specs.Case.{taskCount, releaseCount}
 use Rattle.rules.specs.Text.{digitsOf}
 use Rattle.rules.specs.Writer.{joinedText, taskText, releaseText}
-use Rattle.bridge.specs.Lists.{joined-more, tab-cong}
+use Rattle.lists.specs.Lists.{joined-more, tab-cong}
 use Rattle.puts.specs.Fields.{fieldsText, numberFields, numberLine, wordOf}
 use Rattle.puts.proofs.Lines.{line-length, numbers-append}
 use Rattle.writer.specs.Rows.{rowText, rowsText}

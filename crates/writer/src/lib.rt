@@ -8,6 +8,8 @@ ghost use Rattle.rules.specs.Text.{policyName};
 ghost use Rattle.rules.specs.Writer.{policyText, caseText, writeAnswer, writeBytes};
 ghost use Rattle.puts.specs.Laid.{Laid};
 ghost use Rattle.writer.specs.Rows.{rowsText, headText, tailText, WholeRows};
+use checks::case_fault;
+use checks::room_fault;
 use puts::END;
 use puts::POLICY;
 use puts::PROCS;
@@ -20,8 +22,6 @@ use puts::put_policy;
 use puts::put_word;
 use puts::width;
 use rules::Written;
-use table::case_fault;
-use table::room_fault;
 
 // Writes the policy line at the start.
 fn put_policy_line(out: &mut [u8], policy: u32) -> usize

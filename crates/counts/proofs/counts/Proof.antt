@@ -1,8 +1,8 @@
 -- `counts::counts` meets its contract: a refusal leaves the room, else the free counts are laid in it.
 use mathlib.Core.Path.{_∙_}
 use Rattle.rules.specs.Calls.{countsAnswer, countsRoom}
-use Rattle.bridge.specs.Settled.{refuses, leaves, settles, puts, clear}
-use Rattle.table.proofs.Rows.{counts-clear}
+use Rattle.legal.specs.Settled.{refuses, leaves, settles, puts, clear}
+use Rattle.checks.proofs.Rows.{counts-clear}
 use borrow.Author.Needs.{needs}
 use Rattle.counts.proofs.counts.Statement.{statement}
 use Rattle.counts.proofs.counts.Tie as tie

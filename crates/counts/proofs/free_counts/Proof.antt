@@ -1,6 +1,6 @@
 -- `counts::free_counts` meets its contract.
 use Rattle.rules.specs.Counts.{freeCount}
-use Rattle.bridge.specs.Lists.{tab-front}
+use Rattle.lists.specs.Lists.{tab-front}
 use borrow.Author.Needs.{needs}
 use Rattle.counts.proofs.free_counts.Statement.{statement}
 use Rattle.counts.proofs.free_counts.Tie as tie

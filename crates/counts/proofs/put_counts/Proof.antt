@@ -5,7 +5,7 @@ use Prim.Native.Nat.{_-_, _/_, _≤_, _<_}
 use native.Mathlib.Omega.{arith}
 use lib.ListN.{length}
 use Rattle.rules.specs.Counts.{freeCount}
-use Rattle.bridge.specs.Fill.{Laying, laying-none, laying-long, laying-store}
+use Rattle.lists.specs.Fill.{Laying, laying-none, laying-long, laying-store}
 use Rattle.counts.proofs.put_counts.Statement.{statement}
 use Rattle.counts.proofs.put_counts.Tie as tie
 

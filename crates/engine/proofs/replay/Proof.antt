@@ -2,8 +2,8 @@
 use mathlib.Core.Path.{ap, _∙_}
 use Rattle.rules.specs.Answers.{result}
 use Rattle.rules.specs.Calls.{replayAnswer, replayRoom}
-use Rattle.bridge.specs.Legal.{legal}
-use Rattle.bridge.specs.Settled.{refuses, leaves, settles, puts, clear}
+use Rattle.legal.specs.Legal.{legal}
+use Rattle.legal.specs.Settled.{refuses, leaves, settles, puts, clear}
 use Rattle.engine.proofs.Calls.{sound, replay-clear, still-fits, total, totals}
 use borrow.Author.Needs.{needs}
 use Rattle.engine.proofs.replay.Statement.{statement}

@@ -2,7 +2,7 @@
 use mathlib.Core.Path.{refl, sym, _∙_}
 use native.Mathlib.Omega.{arith}
 use Rattle.rules.specs.Calls.{roomAfter}
-use Rattle.bridge.specs.Legal.{legal}
+use Rattle.legal.specs.Legal.{legal}
 use Rattle.engine.proofs.Going.{same-room, room-open}
 use borrow.Author.Needs.{needs}
 use Rattle.engine.proofs.replay_run.Statement.{statement}

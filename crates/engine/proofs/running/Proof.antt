@@ -7,8 +7,8 @@ use native.Mathlib.Numerals.{add-one}
 use native.Mathlib.Omega.{arith}
 use Rattle.rules.specs.Answers.{result}
 use Rattle.rules.specs.Calls.{runningAnswer}
-use Rattle.bridge.specs.Legal.{legal}
-use Rattle.bridge.specs.Settled.{refuses, settles, clear}
+use Rattle.legal.specs.Legal.{legal}
+use Rattle.legal.specs.Settled.{refuses, settles, clear}
 use Rattle.engine.proofs.Calls.{sound, running-clear}
 use Rattle.engine.proofs.Powers.{array-number}
 use borrow.Author.Needs.{needs}

@@ -2,7 +2,7 @@
 use mathlib.Core.Path.{sym, _∙_}
 use mathlib.Core.Bool.{true≢false}
 use native.Mathlib.Omega.{arith}
-use Rattle.bridge.specs.Legal.{legal}
+use Rattle.legal.specs.Legal.{legal}
 use Rattle.engine.proofs.Going.{orderly, needed, turned, handed, roomy, room-next}
 use borrow.Author.Needs.{needs}
 use Rattle.engine.proofs.turn.Statement.{statement}

@@ -7,7 +7,7 @@ use native.Mathlib.Omega.{arith}
 use lib.ListN.{length, take, getD, length-append}
 use lib.Seq.{take-all}
 use Rattle.rules.specs.Text.{digitsOf}
-use Rattle.roundtrip.specs.Digits.{at-most-ten}
+use Rattle.texts.specs.Digits.{at-most-ten}
 use Rattle.puts.specs.Fields.{fieldsText, numberFields}
 use Rattle.puts.proofs.Lines.{numbers-suc}
 use Rattle.puts.proofs.numbers_width.Statement.{statement}

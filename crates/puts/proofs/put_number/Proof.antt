@@ -6,7 +6,7 @@ use native.Mathlib.Omega.{arith}
 use lib.ListN.{length, length-set}
 use lib.Seq.{sets}
 use Rattle.rules.specs.Text.{digitsOf}
-use Rattle.roundtrip.specs.Digits.{digits-small}
+use Rattle.texts.specs.Digits.{digits-small}
 use Rattle.puts.proofs.Digits.{step-length}
 use Rattle.puts.proofs.Puts.{store-digit}
 use Rattle.puts.proofs.put_number.Statement.{statement}

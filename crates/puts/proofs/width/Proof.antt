@@ -4,7 +4,7 @@ use mathlib.Core.Path.{_≡_, refl, ap}
 use native.Mathlib.Omega.{arith}
 use lib.ListN.{length}
 use Rattle.rules.specs.Text.{digitsOf}
-use Rattle.roundtrip.specs.Digits.{digits-small, at-most-ten}
+use Rattle.texts.specs.Digits.{digits-small, at-most-ten}
 use Rattle.puts.proofs.Digits.{step-length}
 use Rattle.puts.proofs.width.Statement.{statement}
 use Rattle.puts.proofs.width.Tie as tie

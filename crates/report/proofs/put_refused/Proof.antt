@@ -5,7 +5,7 @@ use Prim.Native.Nat.{_+_, _≤_}
 use lib.ListN.{length, set}
 use Rattle.rules.specs.Writer.{lineText, moreFields}
 use Rattle.rules.specs.Report.{refusedLine}
-use Rattle.roundtrip.specs.Digits.{at-most-ten}
+use Rattle.texts.specs.Digits.{at-most-ten}
 use Rattle.puts.specs.Laid.{Laid}
 use Rattle.puts.specs.Fields.{wordOf}
 use Rattle.puts.proofs.Puts.{laid-byte, laid-then, laid-length}

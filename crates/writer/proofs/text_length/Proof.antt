@@ -1,7 +1,7 @@
 -- `writer::text_length` meets its contract: the sum of what the lines take.
 use Prim.Native.Nat.{_*_, _≤_}
 use native.Mathlib.Omega.{arith}
-use Rattle.roundtrip.specs.Digits.{at-most-ten}
+use Rattle.texts.specs.Digits.{at-most-ten}
 use Rattle.puts.proofs.Lines.{numbers-room, policy-room}
 use Rattle.writer.proofs.Texts.{case-length}
 use borrow.Author.Needs.{needs}

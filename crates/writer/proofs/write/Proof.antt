@@ -5,7 +5,7 @@ use Rattle.rules.specs.declared.Fault.{Fault}
 use Rattle.rules.specs.Case.{Case, caseOf}
 use Rattle.rules.specs.Refusals.{caseFault, roomFault}
 use Rattle.rules.specs.Writer.{caseText}
-use Rattle.table.proofs.Rows.{enough-room}
+use Rattle.checks.proofs.Rows.{enough-room}
 use Rattle.writer.proofs.Answers.{whole, case-at-fault, room-at-fault, none-at-fault, refused, written}
 use borrow.Author.Needs.{needs}
 use Rattle.writer.proofs.write.Statement.{statement}

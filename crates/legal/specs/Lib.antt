@@ -1,0 +1,3 @@
+pub mod Firsts
+pub mod Legal
+pub mod Settled

@@ -1,0 +1,5 @@
+pub mod Lists
+pub mod Sums
+pub mod Fill
+pub mod Fuse
+pub mod Tests

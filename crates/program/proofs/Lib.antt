@@ -1,0 +1,5 @@
+pub mod Lines
+pub mod Answers
+pub mod Reports
+pub mod Taken
+pub mod Shows
