@@ -20,7 +20,9 @@ TARGET = "x86_64-unknown-linux-gnu"
 HEADERS = {
     "stddef.h": "typedef __SIZE_TYPE__ size_t;\n",
     "stdint.h": "typedef __UINT8_TYPE__ uint8_t;\n"
-                "typedef __UINT32_TYPE__ uint32_t;\n",
+                "typedef __UINT32_TYPE__ uint32_t;\n"
+                "typedef __UINT64_TYPE__ uint64_t;\n"
+                "#define UINT32_MAX __UINT32_MAX__\n",
 }
 
 
