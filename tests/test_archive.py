@@ -124,6 +124,7 @@ def of_read():
             ("text of 60,001 bytes", b"\n" * 60001, 1, 0),
             ("text of 60,000 bytes", b"\n" * 60000, 2, 1),
             ("a leading zero", b"procs\t02\ntask\t10\t1\t4\nend\t10\n", 2, 1),
+            ("a second line that is cut", b"procs\t2\nend", 2, 2),
             ("no byte", b"", 3, 1),
             ("no task", b"procs\t2\nend\t10\n", 3, 2),
             ("no end", b"procs\t2\ntask\t10\t1\t4\n", 3, 3),
