@@ -11,3 +11,4 @@ pub mod Text
 pub mod Reader
 pub mod Writer
 pub mod Report
+pub mod Told
