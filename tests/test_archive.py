@@ -11,7 +11,7 @@ import subprocess
 import tempfile
 import unittest
 
-from kit import HERE, INCLUDE, ROOT, build, run
+from kit import HERE, INCLUDE, ROOT, archive, build, kit, run
 
 RUST = shutil.which("rustc")
 
@@ -57,6 +57,22 @@ class FromC(unittest.TestCase):
             word = call.split("_")[0]
             tried = [line for line in self.lines if line.split()[2].rstrip(":") == word]
             self.assertGreater(len(tried), 8, call)
+
+
+class Calls(unittest.TestCase):
+    """The archive linked by itself: what it calls has to be given."""
+
+    def linked_with(self, *names):
+        with tempfile.TemporaryDirectory() as folder:
+            return subprocess.run([os.path.join(kit(), "toolchain", "bin", "ld.lld"), "-m", "elf_x86_64",
+                                   "-e", "thrumcomb_counts", "-o", os.path.join(folder, "linked"),
+                                   "--whole-archive", archive(), *(f"--defsym={name}=0" for name in names)],
+                                  stdout=subprocess.PIPE, stderr=subprocess.STDOUT).returncode == 0
+
+    def test_the_archive_calls_only_these(self):
+        self.assertTrue(self.linked_with("memcpy", "memset"))
+        self.assertFalse(self.linked_with("memset"))
+        self.assertFalse(self.linked_with("memcpy"))
 
 
 class Declarations(unittest.TestCase):
