@@ -7,12 +7,13 @@ A build that fails is a failure.
 import os
 import re
 import shutil
+import subprocess
 import tempfile
 import unittest
 
 import driven
 import replay
-from kit import INCLUDE, run
+from kit import INCLUDE, archive, kit, run
 
 RUST = shutil.which("rustc")
 
@@ -171,6 +172,22 @@ class FromC(unittest.TestCase):
         for name in driven.CALLS:
             tried = [call for _, call, _ in BY_HAND if call[0] == name]
             self.assertGreater(len(tried), 8, name)
+
+
+class Calls(unittest.TestCase):
+    """The archive linked by itself: what it calls has to be given."""
+
+    def linked_with(self, *names):
+        with tempfile.TemporaryDirectory() as folder:
+            return subprocess.run([os.path.join(kit(), "toolchain", "bin", "ld.lld"), "-m", "elf_x86_64",
+                                   "-e", "thrumcomb_counts", "-o", os.path.join(folder, "linked"),
+                                   "--whole-archive", archive(), *(f"--defsym={name}=0" for name in names)],
+                                  stdout=subprocess.PIPE, stderr=subprocess.STDOUT).returncode == 0
+
+    def test_the_archive_calls_only_these(self):
+        self.assertTrue(self.linked_with("memcpy", "memset"))
+        self.assertFalse(self.linked_with("memset"))
+        self.assertFalse(self.linked_with("memcpy"))
 
 
 # ---------------------------------------------------------------------------
