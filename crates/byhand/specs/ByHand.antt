@@ -8,6 +8,7 @@ use mathlib.Core.List.{List, [], _∷_, _++_, map}
 use Prim.Native.Nat.{ℕ, _*_}
 use Rattle.rules.specs.Limits.{recordWidth}
 use Rattle.rules.specs.Case.{Case, caseOf, execution, releaseCount}
+use Rattle.rules.specs.Policies.{edf, edfCf}
 use Rattle.rules.specs.Words.{sum, firstIn, tab, mapFrom}
 use Rattle.rules.specs.Counts.{availability, availabilities, count, freeCount}
 use Rattle.rules.specs.Slot.{present, judged, joined, demoted, jobsNow, contentionFree, lowered, opened, jobBefore, rank, chosen, worked, after, ran, finished, missed, demotedNow, setNumber}
@@ -74,7 +75,7 @@ abbrev pub setB : ℕ → ℕ → Case
 setB policy end = caseOf 2 policy tableB end three-at-0
 
 abbrev pub one : Case
-one = caseOf 1 1 (5 ∷ 1 ∷ 5 ∷ []) 5 (0 ∷ 1 ∷ [])
+one = caseOf 1 edfCf (5 ∷ 1 ∷ 5 ∷ []) 5 (0 ∷ 1 ∷ [])
 
 abbrev pub two : ℕ → Case
 two policy = caseOf 1 policy (4 ∷ 2 ∷ 4 ∷ 4 ∷ 2 ∷ 4 ∷ []) 4 (0 ∷ 1 ∷ 0 ∷ 2 ∷ [])
@@ -96,17 +97,17 @@ abbrev pub counts-A : Entry
 counts-A = entry (counting 2 tableA (9 ∷ 9 ∷ 9 ∷ [])) (leaving (3 ∷ []) (1 ∷ 0 ∷ 2 ∷ []))
 
 abbrev pub slot-0-A-edf : Entry
-slot-0-A-edf = entry (asking (setA 0) 0) (plain (3 ∷ []))
+slot-0-A-edf = entry (asking (setA edf) 0) (plain (3 ∷ []))
 
 abbrev pub slot-0-A-edf-cf : Entry
-slot-0-A-edf-cf = entry (asking (setA 1) 0) (plain (6 ∷ []))
+slot-0-A-edf-cf = entry (asking (setA edfCf) 0) (plain (6 ∷ []))
 
 abbrev pub A-edf : Entry
-A-edf = entry (replaying (setA 0) nine) (leaving (2 ∷ 1 ∷ 0 ∷ []) (1 ∷ 1 ∷ 0 ∷ 1 ∷ 1 ∷ 0 ∷ 2 ∷ 0 ∷ 0 ∷ []))
+A-edf = entry (replaying (setA edf) nine) (leaving (2 ∷ 1 ∷ 0 ∷ []) (1 ∷ 1 ∷ 0 ∷ 1 ∷ 1 ∷ 0 ∷ 2 ∷ 0 ∷ 0 ∷ []))
 
 -- the printed case, set A under EDF-CF
 abbrev pub A-edf-cf : Entry
-A-edf-cf = entry (replaying (setA 1) nine) (leaving (3 ∷ 0 ∷ 0 ∷ []) (1 ∷ 2 ∷ 1 ∷ 1 ∷ 1 ∷ 0 ∷ 1 ∷ 5 ∷ 0 ∷ []))
+A-edf-cf = entry (replaying (setA edfCf) nine) (leaving (3 ∷ 0 ∷ 0 ∷ []) (1 ∷ 2 ∷ 1 ∷ 1 ∷ 1 ∷ 0 ∷ 1 ∷ 5 ∷ 0 ∷ []))
 
 -- set B, m = 2: free counts; with end 10 both policies miss task 3
 abbrev pub counts-B : Entry
@@ -135,8 +136,8 @@ two-tasks policy = entry (replaying (two policy) six) (leaving (2 ∷ 0 ∷ 0 �
 
 abbrev pub byHand : List Entry
 byHand =
-    availability-10-4 ∷ counts-A ∷ slot-0-A-edf ∷ slot-0-A-edf-cf ∷ A-edf ∷ A-edf-cf ∷ counts-B ∷ B-10 0 ∷ B-10 1 ∷ B-9 0 ∷ B-9 1 ∷
-    counts-one ∷ execution-one ∷ one-task ∷ two-tasks 0 ∷ two-tasks 1 ∷ []
+    availability-10-4 ∷ counts-A ∷ slot-0-A-edf ∷ slot-0-A-edf-cf ∷ A-edf ∷ A-edf-cf ∷ counts-B ∷ B-10 edf ∷ B-10 edfCf ∷ B-9 edf ∷ B-9 edfCf ∷
+    counts-one ∷ execution-one ∷ one-task ∷ two-tasks edf ∷ two-tasks edfCf ∷ []
 
 -- ---- each entry, computed
 abbrev Stands : Entry → Type 0
@@ -161,15 +162,15 @@ asked = (refl, refl, refl, refl, refl, refl, refl)
 
 -- the records of the cases that are replayed
 known :
-    (records (setA 0) ≡ recordOf 1 1 0 ∷ recordOf 1 1 0 ∷ recordOf 2 0 0 ∷ []) ×
-    (records (setA 1) ≡ recordOf 1 2 1 ∷ recordOf 1 1 0 ∷ recordOf 1 5 0 ∷ []) ×
-    (records (setB 0 10) ≡ recordOf 1 5 0 ∷ recordOf 1 5 0 ∷ recordOf 2 0 0 ∷ []) ×
-    (records (setB 1 10) ≡ recordOf 1 5 0 ∷ recordOf 1 5 0 ∷ recordOf 2 0 0 ∷ []) ×
-    (records (setB 0 9) ≡ recordOf 1 5 0 ∷ recordOf 1 5 0 ∷ recordOf 3 0 0 ∷ []) ×
-    (records (setB 1 9) ≡ recordOf 1 5 0 ∷ recordOf 1 5 0 ∷ recordOf 3 0 0 ∷ []) ×
+    (records (setA edf) ≡ recordOf 1 1 0 ∷ recordOf 1 1 0 ∷ recordOf 2 0 0 ∷ []) ×
+    (records (setA edfCf) ≡ recordOf 1 2 1 ∷ recordOf 1 1 0 ∷ recordOf 1 5 0 ∷ []) ×
+    (records (setB edf 10) ≡ recordOf 1 5 0 ∷ recordOf 1 5 0 ∷ recordOf 2 0 0 ∷ []) ×
+    (records (setB edfCf 10) ≡ recordOf 1 5 0 ∷ recordOf 1 5 0 ∷ recordOf 2 0 0 ∷ []) ×
+    (records (setB edf 9) ≡ recordOf 1 5 0 ∷ recordOf 1 5 0 ∷ recordOf 3 0 0 ∷ []) ×
+    (records (setB edfCf 9) ≡ recordOf 1 5 0 ∷ recordOf 1 5 0 ∷ recordOf 3 0 0 ∷ []) ×
     (records one ≡ recordOf 1 1 0 ∷ []) ×
-    (records (two 0) ≡ recordOf 1 2 0 ∷ recordOf 1 4 0 ∷ []) ×
-    (records (two 1) ≡ recordOf 1 2 0 ∷ recordOf 1 4 0 ∷ [])
+    (records (two edf) ≡ recordOf 1 2 0 ∷ recordOf 1 4 0 ∷ []) ×
+    (records (two edfCf) ≡ recordOf 1 2 0 ∷ recordOf 1 4 0 ∷ [])
 unfolding sum firstIn tab mapFrom availability availabilities count freeCount
     present judged joined demoted jobsNow contentionFree lowered opened jobBefore rank chosen worked after ran finished missed demotedNow
     releasedIn stateFrom stateAt ranAt finishedAt demotedAt slotsBy finishBy demotionBy verdictBy recordBy
@@ -177,20 +178,20 @@ known = (refl, refl, refl, refl, refl, refl, refl, refl, refl)
 
 -- what the replay answers and leaves
 replayed :
-    Stands A-edf × Stands A-edf-cf × Stands (B-10 0) × Stands (B-10 1) × Stands (B-9 0) × Stands (B-9 1) × Stands one-task × Stands (two-tasks 0) × Stands (two-tasks 1)
+    Stands A-edf × Stands A-edf-cf × Stands (B-10 edf) × Stands (B-10 edfCf) × Stands (B-9 edf) × Stands (B-9 edfCf) × Stands one-task × Stands (two-tasks edf) × Stands (two-tasks edfCf)
 unfolding marked numbers
     orNext firstOf procsFault policyFault tableFault taskFault endFault traceFault inOrder lastBefore releaseFault roomFault
     caseFault replayFault settled kept
 replayed = (
-  answered (setA 0) _ nine (known .0) ∙ refl,
-  answered (setA 1) _ nine (known .1) ∙ refl,
-  answered (setB 0 10) _ nine (known .2) ∙ refl,
-  answered (setB 1 10) _ nine (known .3) ∙ refl,
-  answered (setB 0 9) _ nine (known .4) ∙ refl,
-  answered (setB 1 9) _ nine (known .5) ∙ refl,
+  answered (setA edf) _ nine (known .0) ∙ refl,
+  answered (setA edfCf) _ nine (known .1) ∙ refl,
+  answered (setB edf 10) _ nine (known .2) ∙ refl,
+  answered (setB edfCf 10) _ nine (known .3) ∙ refl,
+  answered (setB edf 9) _ nine (known .4) ∙ refl,
+  answered (setB edfCf 9) _ nine (known .5) ∙ refl,
   answered one _ (9 ∷ 9 ∷ 9 ∷ []) (known .6) ∙ refl,
-  answered (two 0) _ six (known .7) ∙ refl,
-  answered (two 1) _ six (known .8) ∙ refl,
+  answered (two edf) _ six (known .7) ∙ refl,
+  answered (two edfCf) _ six (known .8) ∙ refl,
 )
 
 -- ---- the claim: every entry of the list is as the paper says

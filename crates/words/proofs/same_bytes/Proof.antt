@@ -1,12 +1,12 @@
--- `scan::same_bytes` meets its contract.
+-- `words::same_bytes` meets its contract.
 use Prim.Native.Nat.{_-_, _≤_}
 use mathlib.Core.Path.{_≡_, refl, sym, _∙_}
 use native.Mathlib.Omega.{arith}
 use lib.ListN.{length, drop}
 use Rattle.rules.specs.Text.{same}
-use Rattle.scan.proofs.Words.{same-lengths, same-on, same-off, same-done}
-use Rattle.scan.proofs.same_bytes.Statement.{statement}
-use Rattle.scan.proofs.same_bytes.Tie as tie
+use Rattle.words.proofs.Same.{same-lengths, same-on, same-off, same-done}
+use Rattle.words.proofs.same_bytes.Statement.{statement}
+use Rattle.words.proofs.same_bytes.Tie as tie
 
 abbrev Inv-loop : tie.InvT-loop
 Inv-loop a b i₀ i = (i ≤ length a) × (same a b ≡ same (drop i a) (drop i b))
