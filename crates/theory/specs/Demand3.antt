@@ -1,13 +1,13 @@
 -- Demand 3, proved of the definitions of rules: what document 01's steps promise of every accepted case and of every job whose deadline is
 -- not after the end. The statements are about the slots and records of the replay itself; parts 1 and 2 stand first for any course.
 use mathlib.Core.Path.{_≡_, refl, ap, sym, _∙_}
-use mathlib.Core.Bool.{Bool, true, false≢true, true≢false}
+use mathlib.Core.Bool.{Bool, true, false, true≢false}
 use mathlib.Core.Logic.{inl, inr}
 use Prim.Native.Nat.{ℕ, _+_, _≤_, _<_}
 use native.Mathlib.Omega.{arith}
 use lib.Dec.{leb}
 use Rattle.rules.specs.declared.Job.{Job}
-use Rattle.rules.specs.declared.Job.the-variants.{Idle, Normal, Demoted}
+use Rattle.rules.specs.declared.Job.the-variants.{Idle, Normal}
 use Rattle.rules.specs.Words.{countIn}
 use Rattle.rules.specs.Case.{Case, under, deadline, releaseCount, timeOf}
 use Rattle.rules.specs.Counts.{count, freeCount}
@@ -122,9 +122,11 @@ edf-met-stays-met c ok cf j h e = go (stand-due E e-legal j (h .0) (c .end) (h .
 
     -- what is idle under EDF and there under the policy is demoted
     only-demoted : (x y : Job) → Dom x y → x ≡ Idle → isPresent y ≡ true → isDemoted y ≡ true
-    only-demoted x Idle d z p = absurd (false≢true p)
-    only-demoted x (Demoted l u) d z p = refl
-    only-demoted x (Normal l f u) d z p = absurd (true≢false (sym (d .0) ∙ ap isPresent z))
+    only-demoted x y d z p = low (isDemoted y) refl
+      where
+        low : (b : Bool) → isDemoted y ≡ b → isDemoted y ≡ true
+        low true q = q
+        low false q = absurd (true≢false (sym (d p q .there) ∙ ap isPresent z))
 
     go : Stand (finishBy E i a (c .end)) (demotionBy E i a (c .end)) due (jobAt (stateAt E due) i)
         → Stand (finishBy c i a (c .end)) (demotionBy c i a (c .end)) due (jobAt (stateAt c due) i)
