@@ -12,3 +12,4 @@ pub mod Calls
 pub mod Reader
 pub mod Writer
 pub mod Report
+pub mod Told

@@ -1,5 +1,5 @@
--- Demand 3 said of what the replay call returns: of the numbers in its room, for every answer that meets its contract (`Replays` of
--- bridge, Decided). Verdict, finish and demotion are read from the room here, and not from the definition of a record.
+-- Demand 3 said of what the replay call returns: of the numbers in its room, for every answer that keeps its promise (`ReplayPromise` of
+-- rules, Calls). Verdict, finish and demotion are read from the room here, and not from the definition of a record.
 use mathlib.Core.Path.{_≡_, sym, _∙_}
 use mathlib.Core.Bool.{true}
 use mathlib.Core.List.{List, _++_}
@@ -14,12 +14,11 @@ use Rattle.rules.specs.Slot.{freeCountIn}
 use Rattle.rules.specs.Refusals.{caseFault, replayFault, Accepted}
 use Rattle.rules.specs.Replay.{setupIn, contentionFreeAt, recordBy, records, numbers}
 use Rattle.rules.specs.Answers.{result, replayedAs}
-use Rattle.rules.specs.Calls.{roomAfter, replayAnswer, replayRoom}
+use Rattle.rules.specs.Calls.{roomAfter, replayAnswer, replayRoom, ReplayPromise}
 use Rattle.legal.specs.Legal.{next-clear}
 use Rattle.bridge.specs.Records.{taskAt}
 use Rattle.bridge.specs.Notes.{held-verdict, held-finish, held-demotion}
 use Rattle.legal.specs.Settled.{result-clear, kept-new}
-use Rattle.theory.specs.Decided.{Replays}
 use Rattle.theory.specs.Demand3.{dueAt, Judged, free-slots, demoted-meets, edf-met-stays-met}
 
 -- the three numbers that a room holds for release j
@@ -37,7 +36,7 @@ pub record Returned (c : Case) (later : List ℕ) : Type 0 where
   pub lent : List ℕ
   pub said : Replayed
   pub totals : List ℕ
-  pub meets : Replays c lent said later
+  pub meets : ReplayPromise c lent said later
   pub gave : replayedAs said ≡ result totals
 
 module _ (c : Case) (later : List ℕ) (w : Returned c later) where

@@ -3,8 +3,8 @@ ghost use mathlib.Core.Path.{_≡_};
 ghost use Prim.Native.Nat.{_+_, _*_, _≤_};
 ghost use lib.ListN.{length};
 ghost use Rattle.rules.specs.Case.{caseOf};
-ghost use Rattle.rules.specs.Answers.{writtenAs};
-ghost use Rattle.rules.specs.Writer.{policyText, caseText, writeAnswer, writeBytes};
+ghost use Rattle.rules.specs.Calls.{WritePromise};
+ghost use Rattle.rules.specs.Writer.{policyText, caseText};
 ghost use Rattle.puts.specs.Laid.{Laid};
 ghost use Rattle.writer.specs.Rows.{rowsText, headText, tailText, WholeRows};
 use checks::case_fault;
@@ -111,8 +111,7 @@ pub fn write(
     trace: &[u32],
     out: &mut [u8],
 ) -> Written
-    ensures { λ r. ⌜ writtenAs r ≡ writeAnswer (caseOf procs policy (now (table .entry)) end (now (trace .entry))) (now (out .entry)) ⌝ }
-    ensures { λ r. ⌜ now (out .exit) ≡ writeBytes (caseOf procs policy (now (table .entry)) end (now (trace .entry))) (now (out .entry)) ⌝ }
+    ensures { λ r. ⌜ WritePromise (caseOf procs policy (now (table .entry)) end (now (trace .entry))) (now (out .entry)) r (now (out .exit)) ⌝ }
 {
     let found = case_fault(procs, policy, table, end, trace);
     let number = found.number;
