@@ -128,7 +128,8 @@ module _ (k : Course) (i a : ℕ) (s : Sole k i a) where
       let l = s .task in
       let o = openIn k t i in
       rw (finished-in k t i l, demoted-in k t i l, next-in k t i l ∙ work-absent o (k .works t i))
-      (slot-stand (demoting (k .setup .policy)) (demoting (k .setup .policy) && contentionFreeIn k t) (isPresent o && k .works t i) (fin n) (dem n) (a + D) t (foundIn k t i) (λ e. rw e) h)
+      (slot-stand (demoting (k .setup .policy)) (demoting (k .setup .policy) && contentionFreeIn k t)
+      (isPresent o && k .works t i) (fin n) (dem n) (a + D) t (foundIn k t i) (λ e. rw e) h)
 
   -- between release and deadline a slot finds what the slot before it left
   found-after : (n : ℕ) → suc n < D → Stand (fin (suc n)) (dem (suc n)) (a + D) (jobAt (stateIn k (suc (a + n))) i) → foundIn k (suc (a + n)) i ≡ jobAt (stateIn k (suc (a + n))) i

@@ -77,7 +77,8 @@ module _ (c : Case) (t i : ℕ) (l : i < 32) where
       let k = kept-opened (demoting (c .policy)) (lowers (setupIn c) t (releasedAt c t) (stateAt c t)) (readyAt c t i) in
       let r = ran-present c i l t e in
       let a : fin ≡ false = finished-at c i l t ∙ rw r in
-      let b : dem ≡ false = demoted-at c i l t ∙ rw (absent-demotes (readyAt c t i) (sym (k .there) ∙ e)) (and-false (demoting (c .policy))) in
+      let b : dem ≡ false =
+      demoted-at c i l t ∙ rw (absent-demotes (readyAt c t i) (sym (k .there) ∙ e)) (and-false (demoting (c .policy))) in
       let d : late ≡ false = late-here ∙ rw (r, e) in
       rw (a, b, d)
 

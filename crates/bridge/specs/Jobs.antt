@@ -88,7 +88,8 @@ kept-demoted true j = go (isDemotedNow j) refl
 free-demoted : (cf : Bool) (j : Job) → isDemoted (demotedJob cf j) ≡ false → freeOf (demotedJob cf j) ≡ freeOf j
 free-demoted cf j = go (cf && isDemotedNow j)
   where
-    go : (b : Bool) → isDemoted (pick b (Demoted (leftOf j) (dueOf j)) j) ≡ false → freeOf (pick b (Demoted (leftOf j) (dueOf j)) j) ≡ freeOf j
+    go : (b : Bool) → isDemoted (pick b (Demoted (leftOf j) (dueOf j)) j) ≡ false
+        → freeOf (pick b (Demoted (leftOf j) (dueOf j)) j) ≡ freeOf j
     go true e = absurd (true≢false e)
     go false e = refl
 

@@ -187,7 +187,8 @@ module _ (c : Case) (i a : ℕ) (s : Sole (replayOf c) i a) (pos : 0 < deadline 
     unfolding finishBy demotionBy verdictBy firstIn
     next = let e : slotsBy c i a (suc (a + n)) ≡ suc n = rw (← add-suc) (slots-at (suc n) h) in rw e
 
-    kept : Kept (readyAt c (a + n) i) (openAt c (a + n) i) (isDemoted (readyAt c (a + n) i) || (demoting (c .policy) && isDemotedNow (readyAt c (a + n) i)))
+    kept : Kept (readyAt c (a + n) i) (openAt c (a + n) i)
+        (isDemoted (readyAt c (a + n) i) || (demoting (c .policy) && isDemotedNow (readyAt c (a + n) i)))
     kept = kept-opened (demoting (c .policy)) (lowers (setupIn c) (a + n) (releasedAt c (a + n)) (stateAt c (a + n))) (readyAt c (a + n) i)
 
     pub absent-at : isPresent (openAt c (a + n) i) ≡ false → jobRecord c i a (suc (a + n)) ≡ jobRecord c i a (a + n)

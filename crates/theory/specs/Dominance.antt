@@ -1,5 +1,5 @@
--- Part 3 of demand 3, the step law: each job that is normal under a policy that demotes is there under EDF, with at least as much left, from
--- slot to slot of the two replays of one case (rules, Replay). Demand3 draws from it that what EDF meets such a policy meets.
+-- Part 3 of demand 3, the step law: each job that is normal under a policy that demotes is there under EDF, with at least as much left,
+-- from slot to slot of the two replays of one case (rules, Replay). Demand3 draws from it that what EDF meets such a policy meets.
 use mathlib.Core.Path.{_≡_, refl, sym, ap, _∙_}
 use mathlib.Core.Bool.{Bool, true, false, false≢true}
 use Prim.Native.Nat.{ℕ, zero, suc, _≤_, _<_}
@@ -90,7 +90,8 @@ module _ (c : Case) (cf : demoting (c .policy) ≡ true) where
   ready-dom : (t i : ℕ) → Dom (jobAt (stateAt E t) i) (jobAt (stateAt c t) i) → Dom (readyAt E t i) (readyAt c t i)
   ready-dom t i h = go (releasedAt E t i)
     where
-      go : (x : Bool) → Dom (pick x (releasedJob (setupIn E) t i) (judgedJob t (jobAt (stateAt E t) i))) (pick x (releasedJob (setupIn c) t i) (judgedJob t (jobAt (stateAt c t) i)))
+      go : (x : Bool) → Dom (pick x (releasedJob (setupIn E) t i) (judgedJob t (jobAt (stateAt E t) i)))
+          (pick x (releasedJob (setupIn c) t i) (judgedJob t (jobAt (stateAt c t) i)))
       go true = λ p q. record { there = refl; high = refl; due = refl; left = omega arith }
       go false = dom-judged t (jobAt (stateAt E t) i) (jobAt (stateAt c t) i) h
 
@@ -105,15 +106,18 @@ module _ (c : Case) (cf : demoting (c .policy) ≡ true) where
       let of = opened (setupIn c) t (releasedAt c t) (stateAt c t) in
       let fewer : countIn (λ j. comesBefore (setupIn c) t of j i) 0 32 ≤ countIn (λ j. comesBefore (setupIn E) t oe j i) 0 32 =
       count-mono (λ j. comesBefore (setupIn c) t of j i) (λ j. comesBefore (setupIn E) t oe j i) 0 32 (λ j x y b.
-      rw (open-at E j (omega arith) t, open-at E i l t) (before (c .policy) t (openAt E t j) (openAt c t j) (openAt E t i) (openAt c t i) j i cf (h j (omega arith)) (h i l) p q
+      rw (open-at E j (omega arith) t, open-at E i l t) (before (c .policy) t
+      (openAt E t j) (openAt c t j) (openAt E t i) (openAt c t i) j i cf (h j (omega arith)) (h i l) p q
       (rw (open-at c j (omega arith) t, open-at c i l t) at b)))
       in
       let k : countIn (λ j. comesBefore (setupIn E) t oe j i) 0 32 < c .procs = ltb-true _ _ (and-right (isPresent (jobAt oe i)) _ e) in
-      and-both (isPresent (jobAt of i)) _ (ap isPresent (open-at c i l t) ∙ p) (lt-ltb (countIn (λ j. comesBefore (setupIn c) t of j i) 0 32) (c .procs) (omega (arith, fewer, k)))
+      and-both (isPresent (jobAt of i)) _ (ap isPresent (open-at c i l t) ∙ p)
+      (lt-ltb (countIn (λ j. comesBefore (setupIn c) t of j i) 0 32) (c .procs) (omega (arith, fewer, k)))
 
   -- at every time, for every task
   pub dominated : (t i : ℕ) → i < 32 → Dom (jobAt (stateAt E t) i) (jobAt (stateAt c t) i)
   dominated zero i l = rw (at-first c i l) (λ p q. absurd (false≢true p))
   dominated (suc t) i l =
       let o : (j : ℕ) → j < 32 → Dom (openAt E t j) (openAt c t j) = λ j h. open-dom t j (ready-dom t j (dominated t j h)) in
-      rw (next-at E i l t, next-at c i l t) (dom-worked (ranAt E t i) (ranAt c t i) (openAt E t i) (openAt c t i) (o i l) (runs-dom t i l o))
+      rw (next-at E i l t, next-at c i l t)
+      (dom-worked (ranAt E t i) (ranAt c t i) (openAt E t i) (openAt c t i) (o i l) (runs-dom t i l o))

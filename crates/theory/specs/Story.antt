@@ -97,7 +97,8 @@ module _ (calm works : ℕ → Bool) (a C F due D : ℕ) (some : 1 ≤ C) (atten
   owed : (n : ℕ) → n ≤ D → Owed F (countIn calm a n) (story calm works a j n)
   unfolding story sum
   owed zero h p = record { some = some; counts = λ e. omega arith; covered = λ e. absurd (false≢true e) }
-  owed (suc n) h p = owed-slot F (countIn calm a n) (calm (a + n)) (works (a + n)) (story calm works a j n) (attended n h) (owed n (omega arith)) p
+  owed (suc n) h p =
+      owed-slot F (countIn calm a n) (calm (a + n)) (works (a + n)) (story calm works a j n) (attended n h) (owed n (omega arith)) p
 
   low-from : (n d : ℕ) → Low (story calm works a j n) → Low (story calm works a j (n + d))
   unfolding story
