@@ -2,7 +2,7 @@
 use mathlib.Core.Path.{_∙_}
 use Rattle.rules.specs.Calls.{countsAnswer, countsRoom}
 use Rattle.legal.specs.Settled.{refuses, leaves, settles, puts, clear}
-use Rattle.checks.proofs.Rows.{counts-clear}
+use Rattle.legal.specs.Legal.{counts-clear}
 use borrow.Author.Needs.{needs}
 use Rattle.counts.proofs.counts.Statement.{statement}
 use Rattle.counts.proofs.counts.Tie as tie
