@@ -1,4 +1,4 @@
--- What the checks of the replay and of the running set give where they find nothing, and the totals that are read off the room.
+-- The totals that are read off the room of a replay.
 use mathlib.Core.Path.{_≡_, ap, sym, _∙_}
 use mathlib.Core.List.{List, [], _∷_, _++_}
 use Prim.Native.Nat.{ℕ, _*_, _≤_}
@@ -7,17 +7,10 @@ use lib.Dec.{eqb}
 use lib.ListN.{length, getD, drop, length-append}
 use Rattle.rules.specs.Words.{countIn}
 use Rattle.rules.specs.Case.{Case, releaseCount}
-use Rattle.rules.specs.Refusals.{Accepted}
 use Rattle.rules.specs.Replay.{records, recordBy, numbers, marked}
 use Rattle.rules.specs.Calls.{roomAfter}
 use Rattle.lists.specs.Lists.{tab-long}
-use Rattle.legal.specs.Legal.{legal}
-pub use Rattle.legal.specs.Legal.{replay-clear, running-clear}
 use Rattle.bridge.specs.Notes.{numbers-long, marked-in}
-use Rattle.checks.specs.Needs.{Sound}
-
-pub sound : (c : Case) → Accepted c → Sound (c .table)
-sound c ok = let g = legal c ok in record { few = g .tasks-few; good = g .good }
 
 module _ (c : Case) (room out : List ℕ) (o : out ≡ roomAfter c room) where
   pub still-fits : releaseCount (c .trace) * 3 ≤ length out

@@ -86,7 +86,7 @@ pub fn procs_fault(procs: u32) -> Fault
 pub fn policy_fault(policy: u32) -> Fault
     ensures { λ r. ⌜ r ≡ policyFault policy ⌝ }
 {
-    refuse_unless(policy <= 1, 14, 0)
+    refuse_unless(policies::is_policy(policy), 14, 0)
 }
 
 // 5

@@ -13,11 +13,12 @@ use lib.Dec.{eqb, ltb}
 use borrow.Author.Tests.{eqb-true, eqb-false, leb-true, ltb-true}
 use Rattle.rules.specs.Words.{pick}
 use Rattle.rules.specs.Case.{Case, taskCount, period, execution, deadline, releaseCount, timeOf, nameOf}
+use Rattle.rules.specs.Policies.{maxPolicy}
 use Rattle.rules.specs.Refusals.{procsFault, policyFault, tableFault, tasksFault, endFault, traceFault, lastBefore, laterThan, inOrder, apart, releasesFault, roomFault, slotFault, caseTests, caseFault, countsTests, countsFault, replayFault, runningFault, Accepted}
 use Rattle.rules.specs.Limits.{maxProcs, maxTasks, maxEnd, maxReleases, taskWidth, releaseWidth, recordWidth}
 use Rattle.lists.specs.Tests.{and-left, or-cases}
 use Rattle.legal.specs.Firsts.{row-clear}
-use Rattle.legal.specs.Passing.{Sound, sound-table, procs-clear, policy-clear, table-clear, tasks-clear, end-clear, trace-clear, Released, releases-clear, room-clear, slot-clear}
+use Rattle.legal.specs.Passing.{Procs, Sound, sound-table, procs-clear, policy-clear, table-clear, tasks-clear, end-clear, trace-clear, Released, releases-clear, room-clear, slot-clear}
 pub use Rattle.legal.specs.Firsts.{unless-clear, next-clear}
 pub use Rattle.legal.specs.Passing.{Good}
 
@@ -61,7 +62,7 @@ apart-le (suc u) T t x e h = omega (arith, leb-true (u + T) t e)
 pub record Legal (c : Case) : Type 0 where
   pub procs-some : 1 ≤ c .procs
   pub procs-few : c .procs ≤ maxProcs
-  pub policy-known : c .policy ≤ 1
+  pub policy-known : c .policy ≤ maxPolicy
   pub threes : length (c .table) ≡ taskCount (c .table) * taskWidth
   pub tasks-some : 1 ≤ taskCount (c .table)
   pub tasks-few : taskCount (c .table) ≤ maxTasks
@@ -125,9 +126,16 @@ legal c ok =
       separate = λ j i h l q. apart-le _ _ _ _ (r i l .since) (last-late (c .trace) n o i j (nameOf (c .trace) i) h (omega arith) q);
     }
 
+-- the processors of an accepted case, and its table
+pub accepted-procs : (c : Case) → Accepted c → Procs (c .procs)
+accepted-procs c ok = procs-clear (c .procs) (case-passes c ok .by-procs)
+
+pub accepted-table : (c : Case) → Accepted c → Sound (c .table)
+accepted-table c ok = let p = case-passes c ok in sound-table (c .table) (p .by-table) (p .by-tasks)
+
 -- ---- what the checks of each call give where they find nothing
 pub record CountsClear (m : ℕ) (ts : List ℕ) (room : ℕ) : Type 0 where
-  pub procs : m ≤ maxProcs
+  pub procs : Procs m
   pub sound : Sound ts
   pub roomy : taskCount ts ≤ room
 
@@ -135,7 +143,7 @@ pub counts-clear : (m : ℕ) (ts : List ℕ) (room : ℕ) → countsFault m ts r
 unfolding countsFault
 counts-clear m ts room e =
     let w = row-clear (countsTests m ts room) e in
-    record { procs = procs-clear m (w .0) .few; sound = sound-table ts (w .1 .0) (w .1 .1 .0); roomy = room-clear (taskCount ts) room (w .1 .1 .1 .0) }
+    record { procs = procs-clear m (w .0); sound = sound-table ts (w .1 .0) (w .1 .1 .0); roomy = room-clear (taskCount ts) room (w .1 .1 .1 .0) }
 
 pub replay-clear : (c : Case) (room : ℕ) → replayFault c room .number ≡ 0 → Accepted c × (releaseCount (c .trace) * recordWidth ≤ room)
 unfolding replayFault Accepted

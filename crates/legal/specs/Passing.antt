@@ -10,6 +10,7 @@ use lib.Dec.{eqb, ltb, leb}
 use borrow.Author.Tests.{eqb-true, leb-true, ltb-true, le-leb}
 use Rattle.rules.specs.Limits.{maxProcs, maxTasks, maxPeriod, maxEnd, maxReleases, taskWidth, releaseWidth}
 use Rattle.rules.specs.Case.{taskCount, period, execution, deadline, releaseCount, timeOf, nameOf}
+use Rattle.rules.specs.Policies.{maxPolicy}
 use Rattle.rules.specs.Refusals.{noFault, unless, procsFault, policyFault, tableFault, taskStands, taskFault, tasksFault, endFault, traceFault, named, lastBefore, inOrder, apart, releaseTests, releaseFault, releasesFault, roomFault, slotFault}
 use Rattle.lists.specs.Tests.{and-left, and-right}
 use Rattle.legal.specs.Firsts.{unless-clear, unless-none, row-clear, row-none, firstOf-clear}
@@ -26,13 +27,13 @@ procs-clear m e =
     record { some = leb-true 1 m (and-left (leb 1 m) _ q); few = leb-true m maxProcs (and-right (leb 1 m) _ q) }
 
 -- ---- 14: policy, both ways
-pub policy-clear : (p : ℕ) → policyFault p .number ≡ 0 → p ≤ 1
+pub policy-clear : (p : ℕ) → policyFault p .number ≡ 0 → p ≤ maxPolicy
 unfolding policyFault
-policy-clear p e = leb-true p 1 (unless-clear _ 14 0 (omega arith) e)
+policy-clear p e = leb-true p maxPolicy (unless-clear _ 14 0 (omega arith) e)
 
-pub policy-none : (p : ℕ) → p ≤ 1 → policyFault p ≡ noFault
+pub policy-none : (p : ℕ) → p ≤ maxPolicy → policyFault p ≡ noFault
 unfolding policyFault
-policy-none p h = rw (le-leb p 1 h)
+policy-none p h = rw (le-leb p maxPolicy h)
 
 -- ---- 5: the number of tasks
 pub record Tasks (ts : List ℕ) : Type 0 where

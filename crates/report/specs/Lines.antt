@@ -5,7 +5,8 @@ use mathlib.Core.List.{List, [], _∷_, _++_, map}
 use lib.Dec.{eqb}
 use Rattle.rules.specs.Words.{pick}
 use Rattle.rules.specs.Slot.{TaskSet}
-use Rattle.rules.specs.Text.{digitsOf, policyName}
+use Rattle.rules.specs.Text.{digitsOf}
+use Rattle.rules.specs.Policies.{policyName}
 use Rattle.rules.specs.Writer.{lineText}
 use Rattle.rules.specs.Report.{spaceByte, runWord, totalWord}
 use Rattle.puts.specs.Laid.{Laid}

@@ -10,6 +10,7 @@ ghost use Rattle.rules.specs.Report.{verdictName, finishField, demotionField, j
 ghost use Rattle.puts.specs.Laid.{Laid};
 ghost use Rattle.puts.specs.Fields.{numberFields};
 ghost use Rattle.report.specs.Lines.{lineRoom, Printed, runText, totalText, countLine, membersOf, runningLine};
+use policies::put_policy;
 use puts::COUNT;
 use puts::JOB;
 use puts::REFUSED;
@@ -20,7 +21,6 @@ use puts::TOTAL;
 use puts::put_bytes;
 use puts::put_line;
 use puts::put_numbers;
-use puts::put_policy;
 use puts::put_word;
 
 // Writes the run line.

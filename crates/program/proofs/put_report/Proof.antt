@@ -42,7 +42,7 @@ put-jobs-requires : tie.Need-put-jobs-requires
 put-jobs-requires c κs =
     let ok = c .before .before .before .before .before .before .before .before .before .before .before .before .before .before .before .pre .1 in
     let run = c .before .before .before .before .put-run in
-    let fit = fits _ ok _ _ (c .before .before .before .before .before .before .before .before .before .before .replay .ensures .1) (replay-fits _ ok) in
+    let fit = fits _ ok _ _ (c .before .before .before .before .before .before .before .before .before .before .replay .ensures .left) (replay-fits _ ok) in
     (omega (arith, run .ensures .short, run .kept .0, legal _ ok .releases-few, c .before .before .before .before .before .before .before .before .before .before .before .before .before .before .before .pre .0), stands _ ok _ fit)
 
 -- the total line has room behind the job lines
@@ -71,7 +71,7 @@ same-length : tie.Need-same-length
 same-length c = search needs
 
 returns : tie.Need-returns
-returns c = absurd (replay-accepts _ _ _ (replay-fits _ (c .before .before .before .before .before .before .before .before .before .before .before .before .before .pre .1)) (c .before .before .before .before .before .before .before .before .replay .ensures .0) _ _ (c .before .before .before .before .before .replayed .given .1))
+returns c = absurd (replay-accepts _ _ _ (replay-fits _ (c .before .before .before .before .before .before .before .before .before .before .before .before .before .pre .1)) (c .before .before .before .before .before .before .before .before .replay .ensures .answer) _ _ (c .before .before .before .before .before .replayed .given .1))
 
 same-length-2 : tie.Need-same-length-2
 same-length-2 c = search needs
@@ -84,7 +84,7 @@ returns-2 c =
     let replay = c .before .before .before .before .before .before .before .before .before .before .before .before .before .before .before .before .before .replay in
     let h : jobs .result ≤ length (jobs .last .0) = omega (arith, room (c .before .before .before .before .before .before)) in
     record {
-      laid = report-laid _ _ _ _ _ _ _ _ _ _ _ _ (c .before .before .before .before .before .before .before .before .before .before .before .put-run .ensures .laid) (jobs .ensures .laid) (jobs-are _ ok _ _ (replay .ensures .1) (replay-fits _ ok)) (laid-part _ _ _ _ _ h (total .ensures .laid)) (replay-totals _ _ _ (replay-fits _ ok) (replay .ensures .0) _ _ _ (c .before .before .before .before .before .before .before .before .before .before .before .before .before .before .replayed2 .given .1));
+      laid = report-laid _ _ _ _ _ _ _ _ _ _ _ _ (c .before .before .before .before .before .before .before .before .before .before .before .put-run .ensures .laid) (jobs .ensures .laid) (jobs-are _ ok _ _ (replay .ensures .left) (replay-fits _ ok)) (laid-part _ _ _ _ _ h (total .ensures .laid)) (replay-totals _ _ _ (replay-fits _ ok) (replay .ensures .answer) _ _ _ (c .before .before .before .before .before .before .before .before .before .before .before .before .before .before .replayed2 .given .1));
       short = omega (arith, room (c .before .before .before .before .before .before), total .ensures .short);
     }
 
