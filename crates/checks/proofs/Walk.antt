@@ -12,7 +12,7 @@ use Rattle.rules.specs.declared.Fault.{Fault}
 use Rattle.rules.specs.Words.{pick}
 use Rattle.rules.specs.Limits.{maxTasks, maxEnd}
 use Rattle.rules.specs.Case.{taskCount, period, releaseCount, timeOf, nameOf}
-use Rattle.rules.specs.Refusals.{noFault, unless, firstOf, named, inOrder, apart, lastBefore, releaseFault, releasesFault}
+use Rattle.rules.specs.Refusals.{noFault, unless, first, firstOf, named, inOrder, apart, lastBefore, releaseFault, releasesFault}
 use Rattle.lists.specs.Lists.{tab-at, tab-set}
 use Rattle.legal.specs.Firsts.{unless-clear, AllClear, none-yet, none-more, first-hit}
 use Rattle.legal.specs.Passing.{named-clear, Released, release-clear, release-none}
@@ -24,6 +24,12 @@ nearTests ts e rs j = unless (named ts (nameOf rs j)) 8 (suc j) ∷ unless (ltb 
 
 abbrev pub sinceTest : List ℕ → List ℕ → ℕ → Fault
 sinceTest ts rs j = unless (apart (lastBefore rs j (nameOf rs j)) (period ts (nameOf rs j - 1)) (timeOf rs j)) 10 (suc j)
+
+-- as the code finds them: from the name and the time that were read
+pub near-found : (ts : List ℕ) (e : ℕ) (rs : List ℕ) (j name t : ℕ) (some ordered : Bool) (a b d x : Fault) → name ≡ nameOf rs j → t ≡ timeOf rs j
+    → some ≡ named ts name → ordered ≡ inOrder rs j → a ≡ unless some 8 (j + 1) → b ≡ unless (ltb t e) 11 (j + 1) → d ≡ unless ordered 9 (j + 1)
+    → x ≡ first (a ∷ b ∷ d ∷ []) → x ≡ first (nearTests ts e rs j)
+near-found ts e rs j name t some ordered a b d x p q n o f g h y = y ∙ rw (f, g, h, n, o, p, q, add-one j)
 
 -- as the code finds it: from what is kept of the last release, T and the time that were read
 pub since-found : (ts rs : List ℕ) (j last T t : ℕ) (far : Bool) (f : Fault) → last ≡ lastBefore rs j (nameOf rs j) → T ≡ period ts (nameOf rs j - 1) → t ≡ timeOf rs j

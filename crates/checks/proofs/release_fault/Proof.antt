@@ -2,14 +2,13 @@
 use mathlib.Core.Path.{_≡_, ap, ap₂, _∙_}
 use mathlib.Core.List.{List, [], _∷_}
 use Prim.Native.Nat.{ℕ, _-_, _≤_}
-use native.Mathlib.Numerals.{add-one}
 use native.Mathlib.Omega.{arith}
 use lib.ListN.{getD}
 use Rattle.rules.specs.Case.{period, nameOf, taskCount}
 use Rattle.rules.specs.Refusals.{orNext, first, lastBefore, releaseFault}
 use Rattle.rules.specs.declared.Fault.{Fault}
 use Rattle.legal.specs.Firsts.{row-stop, row-join, row-passed}
-use Rattle.checks.proofs.Walk.{nearTests, sinceTest, since-found, near-named, last-at}
+use Rattle.checks.proofs.Walk.{nearTests, near-found, sinceTest, since-found, near-named, last-at}
 use borrow.Author.Needs.{needs}
 use Rattle.checks.proofs.release_fault.Statement.{statement}
 use Rattle.checks.proofs.release_fault.Tie as tie
@@ -38,16 +37,8 @@ since c = sinceTest (table c) (trace c) (j c) ∷ []
 
 found : (c : tie.After-first-of-three) → c .first-of-three .result ≡ first (near c)
 found c =
-    rw (
-      c .before .refuse-unless3 .ensures,
-      c .before .before .in-order .ensures,
-      c .before .before .before .refuse-unless2 .ensures,
-      c .before .before .before .before .refuse-unless .ensures,
-      c .before .before .before .before .before .is-named .ensures,
-      c .before .before .before .before .before .before .name-of .ensures,
-      c .before .before .before .before .before .before .before .time-of .ensures,
-      add-one (j c),
-    ) at (c .first-of-three .ensures)
+    near-found (table c) (start c .args .end) (trace c) (j c) _ _ _ _ _ _ _ _ (c .before .before .before .before .before .before .name-of .ensures) (c .before .before .before .before .before .before .before .time-of .ensures) (c .before .before .before .before .before .is-named .ensures)
+    (c .before .before .in-order .ensures) (c .before .before .before .before .refuse-unless .ensures) (c .before .before .before .refuse-unless2 .ensures) (c .before .refuse-unless3 .ensures) (c .first-of-three .ensures)
 
 -- where they find nothing the release names a task of the table, of which there are few
 bounds : (c : tie.Else1) → (1 ≤ named-by (c .before)) × (named-by (c .before) ≤ taskCount (table (c .before))) × (named-by (c .before) ≤ 32)

@@ -28,7 +28,9 @@ refuse-unless-requires c κs = search needs
 
 returns : tie.Need-returns
 unfolding taskFault
-returns c = rw (c .before .task-stands .ensures, c .before .before .deadline-of .ensures, c .before .before .before .execution-of .ensures, c .before .before .before .before .period-of .ensures, add-one (c .before .before .before .before .before .before .args .i)) at (c .refuse-unless .ensures)
+returns c =
+    rw (← (add-one (c .before .before .before .before .before .before .args .i)))
+    (rw (c .before .task-stands .ensures, c .before .before .deadline-of .ensures, c .before .before .before .execution-of .ensures, c .before .before .before .before .period-of .ensures) at (c .refuse-unless .ensures))
 
 pub task-fault-spec : {M : Type 1} → statement M
 task-fault-spec =
