@@ -109,10 +109,8 @@ pub fn trace_checks(table: &[u32], end: u32, trace: &[u32]) -> Fault
     if number != 0 {
         return size;
     }
-    faults::or_next(
-        size,
-        faults::first_of_one(releases_fault(table, end, trace)),
-    )
+    let releases = releases_fault(table, end, trace);
+    faults::or_next(size, faults::first_of_one(releases))
 }
 
 // The checks on the numbers of a whole case, in their order.
@@ -135,10 +133,8 @@ pub fn counts_fault(procs: u32, table: &[u32], room: usize) -> Fault
     let stands = table_checks(table);
     let tasks = cases::task_count(table);
     let fits = faults::room_fault(tasks, room);
-    faults::or_next(
-        processors,
-        faults::or_next(stands, faults::first_of_one(fits)),
-    )
+    let others = faults::or_next(stands, faults::first_of_one(fits));
+    faults::or_next(processors, others)
 }
 
 // The replay's checks: those of the case, then the room.

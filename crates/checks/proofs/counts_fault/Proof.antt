@@ -1,8 +1,10 @@
 -- `checks::counts_fault` meets its contract.
-use mathlib.Core.Path.{ap₂, _∙_}
+use mathlib.Core.Path.{ap, ap₂, _∙_}
 use mathlib.Core.List.{[], _∷_}
+use Prim.Native.Nat.{ℕ}
+use Rattle.rules.specs.declared.Fault.{Fault}
 use Rattle.rules.specs.Case.{taskCount}
-use Rattle.rules.specs.Refusals.{orNext, roomFault, countsFault}
+use Rattle.rules.specs.Refusals.{orNext, first, roomFault, countsFault}
 use Rattle.legal.specs.Firsts.{row-join}
 use Rattle.checks.specs.Needs.{tableTests}
 use borrow.Author.Needs.{needs}
@@ -35,7 +37,8 @@ unfolding countsFault
 returns c =
     let start = c .before .before .before .before .before .before .before .before in
     let ts = start .args .table .now in
-    let room = rw (c .before .before .before .room-fault .ensures, c .before .before .before .before .task-count .ensures) at (c .before .before .first-of-one .ensures) in
+    let fits = c .before .before .before .room-fault .ensures ∙ ap (λ (n : ℕ). roomFault n (start .args .room)) (c .before .before .before .before .task-count .ensures) in
+    let room = c .before .before .first-of-one .ensures ∙ ap (λ (f : Fault). first (f ∷ [])) fits in
     c .or-next2 .ensures ∙ ap₂ orNext (c .before .before .before .before .before .before .procs-fault .ensures)
     (c .before .or-next .ensures ∙ ap₂ orNext (c .before .before .before .before .before .table-checks .ensures) room ∙ row-join (tableTests ts) (roomFault (taskCount ts) (start .args .room) ∷ []))
 

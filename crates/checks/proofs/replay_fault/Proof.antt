@@ -1,5 +1,10 @@
 -- `checks::replay_fault` meets its contract.
-use Rattle.rules.specs.Refusals.{replayFault}
+use mathlib.Core.Path.{ap, ap₂, _∙_}
+use mathlib.Core.List.{[], _∷_}
+use Prim.Native.Nat.{ℕ, _*_}
+use Rattle.rules.specs.Limits.{recordWidth}
+use Rattle.rules.specs.Refusals.{first, roomFault, replayFault}
+use Rattle.rules.specs.declared.Fault.{Fault}
 use borrow.Author.Needs.{needs}
 use Rattle.checks.proofs.replay_fault.Statement.{statement}
 use Rattle.checks.proofs.replay_fault.Tie as tie
@@ -21,7 +26,9 @@ first-of-two-requires c κs = search needs
 
 returns : tie.Need-returns
 unfolding replayFault
-returns c = rw (c .before .room-fault .ensures, c .before .before .release-count .ensures, c .before .before .before .case-fault .ensures) at (c .first-of-two .ensures)
+returns c =
+    let fits = c .before .room-fault .ensures ∙ ap (λ (n : ℕ). roomFault (n * recordWidth) (c .before .before .before .before .before .before .args .room)) (c .before .before .release-count .ensures) in
+    c .first-of-two .ensures ∙ ap₂ (λ (f g : Fault). first (f ∷ g ∷ [])) (c .before .before .before .case-fault .ensures) fits
 
 pub replay-fault-spec : {M : Type 1} → statement M
 replay-fault-spec =

@@ -1,5 +1,8 @@
 -- `checks::running_fault` meets its contract.
-use Rattle.rules.specs.Refusals.{runningFault}
+use mathlib.Core.Path.{ap₂, _∙_}
+use mathlib.Core.List.{[], _∷_}
+use Rattle.rules.specs.Refusals.{first, runningFault}
+use Rattle.rules.specs.declared.Fault.{Fault}
 use borrow.Author.Needs.{needs}
 use Rattle.checks.proofs.running_fault.Statement.{statement}
 use Rattle.checks.proofs.running_fault.Tie as tie
@@ -15,7 +18,7 @@ first-of-two-requires c κs = search needs
 
 returns : tie.Need-returns
 unfolding runningFault
-returns c = rw (c .before .slot-fault .ensures, c .before .before .case-fault .ensures) at (c .first-of-two .ensures)
+returns c = c .first-of-two .ensures ∙ ap₂ (λ (f g : Fault). first (f ∷ g ∷ [])) (c .before .before .case-fault .ensures) (c .before .slot-fault .ensures)
 
 pub running-fault-spec : {M : Type 1} → statement M
 running-fault-spec =
