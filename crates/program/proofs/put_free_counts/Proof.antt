@@ -1,6 +1,6 @@
 -- `program::put_free_counts` meets its contract.
 use native.Mathlib.Omega.{arith}
-use Rattle.checks.proofs.Rows.{counts-clear}
+use Rattle.legal.specs.Legal.{counts-clear}
 use Rattle.program.proofs.Shows.{counts-accepts, counts-number, counts-long, counts-shown}
 use borrow.Author.Needs.{needs}
 use Rattle.program.proofs.put_free_counts.Statement.{statement}
