@@ -15,7 +15,8 @@ use Rattle.rules.specs.declared.Task.{Task}
 use Rattle.rules.specs.declared.Run.{Run}
 use Rattle.rules.specs.Words.{pick, firstIn}
 use Rattle.rules.specs.Case.{deadline}
-use Rattle.rules.specs.Slot.{Setup, TaskSet, noTask, jobAt, isPresent, leftOf, dueOf, present, isCf, isDemotedNow, readied, demoted, contentionFree, opened, worked, workedJob, demotedNow, lastUnit}
+use Rattle.rules.specs.Policies.{demoting}
+use Rattle.rules.specs.Slot.{Setup, TaskSet, noTask, jobAt, isPresent, leftOf, dueOf, present, isDemotedNow, readied, demoted, contentionFree, opened, worked, workedJob, demotedNow, lastUnit}
 use Rattle.rules.specs.Replay.{fresh, idleTask}
 use Rattle.lists.specs.Lists.{tab-at, tab-long}
 use Rattle.bridge.specs.Steps.{Full, opened-full, worked-full, readied-at, opened-at, worked-at, readiedJob, judgedJob, openedJob}
@@ -67,7 +68,7 @@ foundIn k t i = readiedJob (k .setup) t (k .released t) (stateIn k t) i
 
 -- what steps 3 and 4 make of it
 abbrev pub openIn : Course → ℕ → ℕ → Job
-openIn k t i = openedJob (isCf (k .setup)) (isCf (k .setup) && contentionFreeIn k t) (foundIn k t i)
+openIn k t i = openedJob (demoting (k .setup .policy)) (demoting (k .setup .policy) && contentionFreeIn k t) (foundIn k t i)
 
 module _ (k : Course) where
   pub course-full : (t : ℕ) → Full (stateIn k t)
@@ -88,7 +89,7 @@ module _ (k : Course) where
     unfolding stateIn
     next-in = worked-at i l (k .works t) (openedIn k t) (opened-full (k .setup) t (k .released t) (stateIn k t) (course-full t)) ∙ rw open-in
 
-    pub demoted-in : demotedIn k t i ≡ (isCf (k .setup) && isDemotedNow (foundIn k t i))
+    pub demoted-in : demotedIn k t i ≡ (demoting (k .setup .policy) && isDemotedNow (foundIn k t i))
     unfolding demotedIn demotedNow
     demoted-in = rw (readied-at i l (k .setup) t (k .released t) (stateIn k t) (course-full t))
 
@@ -127,7 +128,7 @@ module _ (k : Course) (i a : ℕ) (s : Sole k i a) where
       let l = s .task in
       let o = openIn k t i in
       rw (finished-in k t i l, demoted-in k t i l, next-in k t i l ∙ only o (k .works t i))
-      (slot-stand (isCf (k .setup)) (isCf (k .setup) && contentionFreeIn k t) (isPresent o && k .works t i) (fin n) (dem n) (a + D) t (foundIn k t i) (λ e. rw e) h)
+      (slot-stand (demoting (k .setup .policy)) (demoting (k .setup .policy) && contentionFreeIn k t) (isPresent o && k .works t i) (fin n) (dem n) (a + D) t (foundIn k t i) (λ e. rw e) h)
     where
       -- work does nothing to a task that has no job
       only : (o : Job) (b : Bool) → pick b (workedJob o) o ≡ pick (isPresent o && b) (workedJob o) o

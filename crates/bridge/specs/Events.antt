@@ -8,7 +8,8 @@ use lib.Dec.{eqb, leb}
 use borrow.Author.Tests.{eqb-true, eqb-false, le-leb, lt-leb}
 use Rattle.rules.specs.Words.{pick}
 use Rattle.rules.specs.Case.{Case, releaseCount, nameOf}
-use Rattle.rules.specs.Slot.{isPresent, leftOf, dueOf, isMissed, isCf, isDemotedNow, workedJob, missed}
+use Rattle.rules.specs.Policies.{demoting}
+use Rattle.rules.specs.Slot.{isPresent, leftOf, dueOf, isMissed, isDemotedNow, workedJob, missed}
 use Rattle.rules.specs.Replay.{setupIn, releasedAt, stateAt, ranAt, finishedAt, missedAt, demotedAt, verdictOf, Record, recordOf, recordBy}
 use Rattle.rules.specs.declared.Job.{Job}
 use Rattle.rules.specs.declared.Job.the-variants.{Idle, Normal, Demoted}
@@ -81,10 +82,10 @@ module _ (c : Case) (t i : ℕ) (l : i < 32) where
   -- of a task that is not there nothing is written
   absent : isPresent (openAt c t i) ≡ false → event fin dem late ≡ false
   absent e =
-      let k = kept-opened (isCf (setupIn c)) (lowers (setupIn c) t (releasedAt c t) (stateAt c t)) (readyAt c t i) in
+      let k = kept-opened (demoting (c .policy)) (lowers (setupIn c) t (releasedAt c t) (stateAt c t)) (readyAt c t i) in
       let r = ran-present c i l t e in
       let a : fin ≡ false = finished-at c i l t ∙ rw r in
-      let b : dem ≡ false = demoted-at c i l t ∙ rw (absent-demotes (readyAt c t i) (sym (k .there) ∙ e)) (and-false (isCf (setupIn c))) in
+      let b : dem ≡ false = demoted-at c i l t ∙ rw (absent-demotes (readyAt c t i) (sym (k .there) ∙ e)) (and-false (demoting (c .policy))) in
       let d : late ≡ false = late-here ∙ rw (r, e) in
       rw (a, b, d)
 

@@ -33,10 +33,10 @@ pub fn procs_fault(m: u32) -> Fault
 pub fn policy_fault(p: u32) -> Fault
     ensures { λ r. ⌜ r ≡ policyFault p ⌝ }
 {
-    if 1 < p {
-        return fault(14, 0);
+    if policies::is_policy(p) {
+        return fault(0, 0);
     }
-    fault(0, 0)
+    fault(14, 0)
 }
 
 pub fn end_fault(e: u32) -> Fault

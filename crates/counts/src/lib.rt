@@ -5,8 +5,7 @@ ghost use mathlib.Core.List.{List, _++_};
 ghost use lib.ListN.{length, getD, drop};
 ghost use Rattle.rules.specs.Case.{taskCount};
 ghost use Rattle.rules.specs.Counts.{availability, count, freeCounts};
-ghost use Rattle.rules.specs.Answers.{countedAs};
-ghost use Rattle.rules.specs.Calls.{countsAnswer, countsRoom};
+ghost use Rattle.rules.specs.Calls.{CountsPromise};
 ghost use Rattle.checks.specs.Needs.{Sound};
 ghost use Rattle.counts.specs.Needs.{Counts};
 use rules::Counted;
@@ -70,7 +69,7 @@ pub fn free_counts(m: u32, table: &[u32]) -> [u32; 32]
 
 // The counts of any table: a refusal that leaves the room as it was, or the number of tasks and their free counts.
 pub fn counts(procs: u32, table: &[u32], out: &mut [u32]) -> Counted
-    ensures { λ r. ⌜ (countedAs r ≡ countsAnswer procs (now (table .entry)) (now (out .entry))) × (now (out .exit) ≡ countsRoom procs (now (table .entry)) (now (out .entry))) ⌝ }
+    ensures { λ r. ⌜ CountsPromise procs (now (table .entry)) (now (out .entry)) r (now (out .exit)) ⌝ }
 {
     let room = out.len();
     let f = checks::counts_fault(procs, table, room);

@@ -14,6 +14,7 @@ use Rattle.rules.specs.declared.Fault.{Fault}
 use Rattle.lists.specs.Tests.{and-left, and-right, or-cases}
 use Rattle.rules.specs.Words.{pick}
 use Rattle.rules.specs.Case.{Case, taskCount, period, execution, deadline, releaseCount, timeOf, nameOf}
+use Rattle.rules.specs.Policies.{maxPolicy}
 use Rattle.rules.specs.Refusals.{unless, orNext, firstOf, procsFault, policyFault, tableFault, taskStands, taskFault, tasksFault, endFault, traceFault, lastBefore, laterThan, inOrder, apart, releaseFault, releasesFault, caseFault, Accepted}
 use Rattle.rules.specs.Limits.{maxEnd, taskWidth, releaseWidth}
 
@@ -85,7 +86,7 @@ pub record Good (T C D : ℕ) : Type 0 where
 pub record Legal (c : Case) : Type 0 where
   pub procs-some : 1 ≤ c .procs
   pub procs-few : c .procs ≤ 32
-  pub policy-known : c .policy ≤ 1
+  pub policy-known : c .policy ≤ maxPolicy
   pub threes : length (c .table) ≡ taskCount (c .table) * taskWidth
   pub tasks-some : 1 ≤ taskCount (c .table)
   pub tasks-few : taskCount (c .table) ≤ 32
@@ -159,7 +160,7 @@ module _ (c : Case) where
       record {
         procs-some = leb-true 1 m (and-left (leb 1 m) _ p);
         procs-few = leb-true m 32 (and-right (leb 1 m) _ p);
-        policy-known = leb-true _ 1 (unless-clear _ 14 0 (omega arith) (f2 .0));
+        policy-known = leb-true _ maxPolicy (unless-clear _ 14 0 (omega arith) (f2 .0));
         threes = omega (arith, eqb-true (length (c .table) % 3) 0 (and-left _ (leb 1 k) q1));
         tasks-some = leb-true 1 k (and-right (eqb (length (c .table) % 3) 0) (leb 1 k) q1);
         tasks-few = leb-true k 32 (and-right (eqb (length (c .table) % 3) 0 && leb 1 k) (leb k 32) q);

@@ -8,7 +8,8 @@ use Rattle.rules.specs.Words.{pick}
 use Rattle.rules.specs.Limits.{maxTasks}
 use Rattle.rules.specs.Slot.{TaskSet}
 use Rattle.rules.specs.Replay.{Record}
-use Rattle.rules.specs.Text.{digitsOf, policyName}
+use Rattle.rules.specs.Text.{digitsOf}
+use Rattle.rules.specs.Policies.{policyName}
 use Rattle.rules.specs.Writer.{lineText}
 use Rattle.rules.specs.Report.{spaceByte, runWord, jobWord, totalWord, verdictName, finishField, demotionField}
 use Rattle.puts.specs.Laid.{Laid}

@@ -9,6 +9,7 @@ ghost use Rattle.rules.specs.Replay.{recordOf};
 ghost use Rattle.rules.specs.Report.{spaceByte, verdictName, finishField, demotionField, jobLine, refusedLine};
 ghost use Rattle.puts.specs.Laid.{Laid};
 ghost use Rattle.prints.specs.Lines.{lineRoom, jobRoom, fieldRoom, verdictRoom, outcomeRoom, Printed, outcomeFields, runText, totalText, countLine, membersOf, runningLine};
+use policies::put_policy;
 use puts::COUNT;
 use puts::JOB;
 use puts::REFUSED;
@@ -19,7 +20,6 @@ use puts::TOTAL;
 use puts::put_bytes;
 use puts::put_line;
 use puts::put_numbers;
-use puts::put_policy;
 use puts::put_word;
 
 // ---- lines of a word and numbers

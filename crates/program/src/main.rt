@@ -96,13 +96,13 @@ fn answer(wish: Wish, text: &[u8], out: &mut [u8]) -> usize
 
 // The wish of the word that stands alone after the program's name.
 fn alone(word: &[u8]) -> Wish {
-    if scan::same_bytes(word, b"counts") {
+    if words::same_bytes(word, b"counts") {
         return Wish::Counts;
     }
-    if scan::same_bytes(word, b"write") {
+    if words::same_bytes(word, b"write") {
         return Wish::Write;
     }
-    if scan::same_bytes(word, b"help") {
+    if words::same_bytes(word, b"help") {
         return Wish::Help;
     }
     Wish::Unknown
@@ -113,7 +113,7 @@ fn named_slot(word: &[u8], number: &[u8]) -> Wish {
     let Num::Value { value } = scan::number(number) else {
         return Wish::Unknown;
     };
-    if scan::same_bytes(word, b"slot") {
+    if words::same_bytes(word, b"slot") {
         return Wish::Slot { slot: value };
     }
     Wish::Unknown

@@ -9,6 +9,7 @@ use lib.ListN.{length}
 use Rattle.rules.specs.Words.{pick}
 use Rattle.rules.specs.Limits.{maxProcs, maxTasks, maxPeriod, maxEnd, maxReleases, taskWidth, releaseWidth, recordWidth}
 use Rattle.rules.specs.Case.{Case, taskCount, period, execution, deadline, releaseCount, timeOf, nameOf}
+use Rattle.rules.specs.Policies.{maxPolicy}
 use Rattle.rules.specs.declared.Fault.{Fault}
 
 abbrev pub faultOf : ℕ → ℕ → Fault
@@ -42,7 +43,7 @@ procsFault m = unless (leb 1 m && leb m maxProcs) 4 0
 
 -- ---- 14: policy not 0 or 1
 unfoldable pub policyFault : ℕ → Fault
-policyFault p = unless (leb p 1) 14 0
+policyFault p = unless (leb p maxPolicy) 14 0
 
 -- ---- 5: tasks not 1 to 32, or task numbers not in threes
 unfoldable pub tableFault : List ℕ → Fault

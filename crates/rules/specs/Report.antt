@@ -7,7 +7,8 @@ use lib.ListN.{length}
 use Rattle.rules.specs.Words.{pick, tab}
 use Rattle.rules.specs.Case.{Case, taskCount, deadline, releaseCount, timeOf, nameOf}
 use Rattle.rules.specs.Replay.{Record, recordBy, metJobs, missedJobs, openJobs}
-use Rattle.rules.specs.Text.{digitsOf, policyName}
+use Rattle.rules.specs.Text.{digitsOf}
+use Rattle.rules.specs.Policies.{policyName}
 use Rattle.rules.specs.Reader.{textFault, caseIn}
 use Rattle.rules.specs.Writer.{joinedText, lineText}
 

@@ -12,7 +12,9 @@ counts-fault-requires c κs = search needs
 
 returns : tie.Need-returns
 unfolding countsAnswer countsRoom
-returns c = (refuses _ _ (c .before .counts-fault .ensures) _ (c .if1 .taken), leaves _ _ (c .before .counts-fault .ensures) _ _ (c .if1 .taken))
+returns c =
+    let e = c .before .counts-fault .ensures in
+    record { answer = refuses _ _ e _ (c .if1 .taken); left = leaves _ _ e _ _ (c .if1 .taken) }
 
 put-counts-requires : tie.Need-put-counts-requires
 put-counts-requires c κs =
@@ -27,7 +29,7 @@ unfolding countsAnswer countsRoom
 returns-2 c =
     let e = c .before .before .before .before .before .counts-fault .ensures in
     let h = c .before .before .before .before .if1 .left in
-    (settles _ _ e _ h, c .before .before .put-counts .ensures ∙ puts _ _ e _ _ h)
+    record { answer = settles _ _ e _ h; left = c .before .before .put-counts .ensures ∙ puts _ _ e _ _ h }
 
 pub counts-spec : {M : Type 1} → statement M
 counts-spec =

@@ -20,7 +20,7 @@ running-fault-requires c κs = search needs
 
 returns : tie.Need-returns
 unfolding runningAnswer
-returns c = refuses _ _ (c .before .running-fault .ensures) _ (c .if1 .taken)
+returns c = record { answer = refuses _ _ (c .before .running-fault .ensures) _ (c .if1 .taken) }
 
 free-counts-requires : tie.Need-free-counts-requires
 free-counts-requires c κs =
@@ -51,7 +51,7 @@ unfolding runningAnswer
 returns-2 c =
     let e = c .before .before .before .before .before .before .before .running-fault .ensures in
     let n = c .set-number .ensures ∙ array-number _ _ (c .before .before .walk .ensures .0 _ (add-one _)) in
-    ap (λ (x : ℕ). result (x ∷ [])) n ∙ settles _ _ e _ (c .before .before .before .before .before .before .if1 .left)
+    record { answer = ap (λ (x : ℕ). result (x ∷ [])) n ∙ settles _ _ e _ (c .before .before .before .before .before .before .if1 .left) }
 
 pub running-spec : {M : Type 1} → statement M
 running-spec =

@@ -9,7 +9,8 @@ use Rattle.rules.specs.Writer.{lineText, moreFields}
 use Rattle.rules.specs.Report.{spaceByte}
 use Rattle.puts.specs.Fields.{wordOf}
 use Rattle.puts.proofs.Puts.{laid-byte, laid-then, laid-length}
-use Rattle.puts.proofs.Lines.{fields-then, numbers-room, policy-room}
+use Rattle.puts.proofs.Lines.{fields-then, numbers-room}
+use Rattle.texts.specs.PolicyNames.{name-short}
 use Rattle.prints.specs.Lines.{lineRoom, runText}
 use Rattle.prints.proofs.put_run.Statement.{statement}
 use Rattle.prints.proofs.put_run.Tie as tie
@@ -28,13 +29,13 @@ worded c =
 put-policy-requires : tie.Need-put-policy-requires
 put-policy-requires c κs =
     let a = c .before .before .before .before .before .before .args in
-    omega (arith, worded (c .before .before .before), policy-room (a .policy))
+    omega (arith, worded (c .before .before .before), name-short (a .policy))
 
 named : (c : tie.After-put-policy) → (c .put-policy .result ≤ 14) × (lineRoom ≤ length (c .put-policy .last .0))
 named c =
     let a = c .before .before .before .before .before .before .before .args in
     let put = c .put-policy in
-    omega (arith, worded (c .before .before .before .before), policy-room (a .policy), put .ensures .behind, put .kept .0)
+    omega (arith, worded (c .before .before .before .before), name-short (a .policy), put .ensures .behind, put .kept .0)
 
 slice-aggregate-put-numbers : tie.Need-slice-aggregate-put-numbers
 slice-aggregate-put-numbers c = search needs

@@ -29,16 +29,16 @@ put-count-lines-requires : tie.Need-put-count-lines-requires
 put-count-lines-requires c κs =
     let start = c .before .before .before .before .before .before .before .before .before .before in
     let counts = c .before .before .before .before .before .before .counts .ensures in
-    let n = counts-number _ _ _ (start .pre .1) _ (counts .0) _ (c .before .before .before .counted2 .given .1) in
+    let n = counts-number _ _ _ (start .pre .1) _ (counts .answer) _ (c .before .before .before .counted2 .given .1) in
     let few = counts-clear _ _ maxTasks (start .pre .1) .roomy in
-    let long = counts-long _ _ _ (start .pre .1) _ (counts .1) in
+    let long = counts-long _ _ _ (start .pre .1) _ (counts .left) in
     (omega (arith, n, few), (omega (arith, n, long), omega (arith, n, few, start .pre .0)))
 
 same-length : tie.Need-same-length
 same-length c = search needs
 
 returns : tie.Need-returns
-returns c = absurd (counts-accepts _ _ _ (c .before .before .before .before .before .before .before .before .before .before .before .before .pre .1) _ (c .before .before .before .before .before .before .before .before .counts .ensures .0) _ _ (c .before .before .before .before .before .counted .given .1))
+returns c = absurd (counts-accepts _ _ _ (c .before .before .before .before .before .before .before .before .before .before .before .before .pre .1) _ (c .before .before .before .before .before .before .before .before .counts .ensures .answer) _ _ (c .before .before .before .before .before .counted .given .1))
 
 same-length-2 : tie.Need-same-length-2
 same-length-2 c = search needs
@@ -46,7 +46,7 @@ same-length-2 c = search needs
 returns-2 : tie.Need-returns-2
 returns-2 c =
     let h = c .before .before .before .before .before .before .before .before .before .before .before .before .before .pre .1 in
-    counts-shown _ _ _ h _ (c .before .before .before .before .before .before .before .before .before .counts .ensures .1) _ (counts-number _ _ _ h _ (c .before .before .before .before .before .before .before .before .before .counts .ensures .0) _ (c .before .before .before .before .before .before .counted2 .given .1)) (counts-clear _ _ maxTasks h .roomy) _ _ _ (c .before .before .put-count-lines .ensures)
+    counts-shown _ _ _ h _ (c .before .before .before .before .before .before .before .before .before .counts .ensures .left) _ (counts-number _ _ _ h _ (c .before .before .before .before .before .before .before .before .before .counts .ensures .answer) _ (c .before .before .before .before .before .before .counted2 .given .1)) (counts-clear _ _ maxTasks h .roomy) _ _ _ (c .before .before .put-count-lines .ensures)
 
 pub put-free-counts-spec : {M : Type 1} → statement M
 put-free-counts-spec =

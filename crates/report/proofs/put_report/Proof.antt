@@ -3,9 +3,11 @@ use Prim.Native.Nat.{_+_, _*_, _≤_}
 use native.Mathlib.Omega.{arith}
 use lib.ListN.{length}
 use Rattle.rules.specs.Limits.{maxReleases}
+use Rattle.rules.specs.Case.{releaseCount}
 use Rattle.legal.specs.Legal.{legal}
 use Rattle.puts.proofs.Puts.{laid-part, part-length}
 use Rattle.prints.specs.Lines.{lineRoom, jobRoom}
+use Rattle.report.specs.Cases.{linesText, jobText}
 use Rattle.report.proofs.Answers.{replay-fits}
 use Rattle.report.proofs.Reports.{stands, fits, jobs-are, report-laid}
 use Rattle.report.proofs.Commands.{replay-accepts, replay-totals}
@@ -44,7 +46,7 @@ put-jobs-requires : tie.Need-put-jobs-requires
 put-jobs-requires c κs =
     let ok = c .before .before .before .before .before .before .before .before .before .before .before .before .before .before .before .pre .1 in
     let run = c .before .before .before .before .put-run in
-    let fit = fits _ ok _ _ (c .before .before .before .before .before .before .before .before .before .before .replay .ensures .1) (replay-fits _ ok) in
+    let fit = fits _ ok _ _ (c .before .before .before .before .before .before .before .before .before .before .replay .ensures .left) (replay-fits _ ok) in
     (omega (arith, run .ensures .short, run .kept .0, legal _ ok .releases-few, c .before .before .before .before .before .before .before .before .before .before .before .before .before .before .before .pre .0), stands _ ok _ fit)
 
 -- the total line has room behind the job lines
@@ -73,20 +75,28 @@ same-length : tie.Need-same-length
 same-length c = search needs
 
 returns : tie.Need-returns
-returns c = absurd (replay-accepts _ _ _ (replay-fits _ (c .before .before .before .before .before .before .before .before .before .before .before .before .before .pre .1)) (c .before .before .before .before .before .before .before .before .replay .ensures .0) _ _ (c .before .before .before .before .before .replayed .given .1))
+returns c = absurd (replay-accepts _ _ _ (replay-fits _ (c .before .before .before .before .before .before .before .before .before .before .before .before .before .pre .1)) (c .before .before .before .before .before .before .before .before .replay .ensures .answer) _ _ (c .before .before .before .before .before .replayed .given .1))
 
 same-length-2 : tie.Need-same-length-2
 same-length-2 c = search needs
 
 returns-2 : tie.Need-returns-2
 returns-2 c =
-    let ok = c .before .before .before .before .before .before .before .before .before .before .before .before .before .before .before .before .before .before .before .before .before .before .pre .1 in
+    let start = c .before .before .before .before .before .before .before .before .before .before .before .before .before .before .before .before .before .before .before .before .before .before in
+    let replay = c .before .before .before .before .before .before .before .before .before .before .before .before .before .before .before .before .before .replay in
+    let judged = c .before .before .before .before .before .before .before .before .before .before .before .before .before .before .replayed2 .given .1 in
+    let run = c .before .before .before .before .before .before .before .before .before .before .before .put-run in
     let jobs = c .before .before .before .before .before .before .put-jobs in
     let total = c .before .before .put-total in
-    let replay = c .before .before .before .before .before .before .before .before .before .before .before .before .before .before .before .before .before .replay in
+    let fit = replay-fits _ (start .pre .1) in
     let h : jobs .result ≤ length (jobs .last .0) = omega (arith, room (c .before .before .before .before .before .before)) in
     record {
-      laid = report-laid _ _ _ _ _ _ _ _ _ _ _ _ (c .before .before .before .before .before .before .before .before .before .before .before .put-run .ensures .laid) (jobs .ensures .laid) (jobs-are _ ok _ _ (replay .ensures .1) (replay-fits _ ok)) (laid-part _ _ _ _ _ h (total .ensures .laid)) (replay-totals _ _ _ (replay-fits _ ok) (replay .ensures .0) _ _ _ (c .before .before .before .before .before .before .before .before .before .before .before .before .before .before .replayed2 .given .1));
+      laid = report-laid _ _ _ _ _ (linesText (jobText (start .args .table .now) (start .args .trace .now) (replay .last .1 .1 .1 .1 .1 .0)) (releaseCount (start .args .trace .now))) _ _ _ _ _ _
+          (run .ensures .laid)
+          (jobs .ensures .laid)
+          (jobs-are _ (start .pre .1) _ _ (replay .ensures .left) fit)
+          (laid-part _ _ _ _ _ h (total .ensures .laid))
+          (replay-totals _ _ _ fit (replay .ensures .answer) _ _ _ judged);
       short = omega (arith, room (c .before .before .before .before .before .before), total .ensures .short);
     }
 
