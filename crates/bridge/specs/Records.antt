@@ -1,7 +1,7 @@
 -- How the record of a release (rules, Replay) goes on from time t to t + 1, and when its task is idle; and `sole`, that a task of an
 -- accepted case never has two jobs at once (document 01, "The model"). Turn takes these together for all releases of a task.
 use mathlib.Core.Path.{_≡_, refl, ap, sym, _∙_}
-use mathlib.Core.Bool.{Bool, true, false, _&&_, _||_, and-false, or-true, false≢true, true≢false}
+use mathlib.Core.Bool.{Bool, true, false, _&&_, _||_, and-false, or-true, true≢false}
 use mathlib.Core.Logic.{_⊎_, inl, inr}
 use mathlib.Core.List.{List}
 use Prim.Native.Nat.{ℕ, zero, suc, _+_, _-_, _≤_, _<_}
@@ -16,11 +16,11 @@ use Rattle.rules.specs.Policies.{demoting}
 use Rattle.rules.specs.Slot.{jobAt, isPresent, isDemoted, dueOf, isDemotedNow}
 use Rattle.rules.specs.Replay.{setupIn, releasedIn, releasedAt, idleTask, stateFrom, stateAt, finishedAt, demotedAt, slotsBy, finishBy, demotionBy, verdictBy, verdictOf, Record, recordOf, jobRecord}
 use Rattle.rules.specs.declared.Job.{Job}
-use Rattle.rules.specs.declared.Job.the-variants.{Idle, Normal, Demoted}
+use Rattle.rules.specs.declared.Job.the-variants.{Idle}
 use Rattle.rules.specs.declared.Task.{Task}
 use Rattle.lists.specs.Lists.{tab-at}
 use Rattle.bridge.specs.Steps.{lowers, judgedJob}
-use Rattle.bridge.specs.Jobs.{Kept, kept-opened, Stand, written, idle-now}
+use Rattle.bridge.specs.Jobs.{Kept, kept-opened, Stand, written, idle-now, demotes-once}
 use Rattle.bridge.specs.Course.{Sole}
 use Rattle.bridge.specs.Stands.{replayOf, readyAt, openAt, ready, stands, next-at, ran-present, demoted-at}
 use Rattle.legal.specs.Legal.{Legal, Good}
@@ -187,7 +187,8 @@ module _ (c : Case) (i a : ℕ) (s : Sole (replayOf c) i a) (pos : 0 < deadline 
     unfolding finishBy demotionBy verdictBy firstIn
     next = let e : slotsBy c i a (suc (a + n)) ≡ suc n = rw (← add-suc) (slots-at (suc n) h) in rw e
 
-    kept : Kept (readyAt c (a + n) i) (openAt c (a + n) i) (isDemoted (readyAt c (a + n) i) || (demoting (c .policy) && isDemotedNow (readyAt c (a + n) i)))
+    kept : Kept (readyAt c (a + n) i) (openAt c (a + n) i)
+        (isDemoted (readyAt c (a + n) i) || (demoting (c .policy) && isDemotedNow (readyAt c (a + n) i)))
     kept = kept-opened (demoting (c .policy)) (lowers (setupIn c) (a + n) (releasedAt c (a + n)) (stateAt c (a + n))) (readyAt c (a + n) i)
 
     pub absent-at : isPresent (openAt c (a + n) i) ≡ false → jobRecord c i a (suc (a + n)) ≡ jobRecord c i a (a + n)
@@ -208,9 +209,7 @@ module _ (c : Case) (i a : ℕ) (s : Sole (replayOf c) i a) (pos : 0 < deadline 
         dem-next : (b : Bool) (j : Job) (d v : ℕ) → isDemoted j ≡ written d → orElse d (b && isDemotedNow j) v ≡ pick (b && isDemotedNow j) v d
         dem-next b j zero v q = refl
         dem-next false j (suc d) v q = refl
-        dem-next true Idle (suc d) v q = refl
-        dem-next true (Normal x y z) (suc d) v q = absurd (false≢true q)
-        dem-next true (Demoted x y) (suc d) v q = refl
+        dem-next true j (suc d) v q = rw (demotes-once j q)
 
         go : Stand fin dem (a + deadline (c .table) i) (readyAt c (a + n) i) → LiveAt c i a (a + n)
         go (inr (p, z)) = absurd (true≢false (sym e ∙ kept .there ∙ ap isPresent z))

@@ -109,7 +109,8 @@ module _ (i : ℕ) (l : i < 32) where
   unfolding demoted
   demoted-at g r h =
       pick-run (demoting (g .policy)) (eachTask (λ i t. demotedTask t) r) r i ∙
-      ap (λ (j : Job). pick (demoting (g .policy)) j (jobAt r i)) (ap (λ (t : Task). t .job) (each-at (λ i t. demotedTask t) r h) ∙ demoted-job (getD (r .tasks) i noTask)) ∙
+      ap (λ (j : Job). pick (demoting (g .policy)) j (jobAt r i))
+      (ap (λ (t : Task). t .job) (each-at (λ i t. demotedTask t) r h) ∙ demoted-job (getD (r .tasks) i noTask)) ∙
       pick-and (demoting (g .policy)) (isDemotedNow (jobAt r i)) (Demoted (leftOf (jobAt r i)) (dueOf (jobAt r i))) (jobAt r i)
 
   pub opened-at : (g : Setup) (now : ℕ) (s : TaskSet) (r : Run) → Full r

@@ -101,7 +101,8 @@ module _ (c : Case) (g : Legal c) (t k : ℕ) (w : Reached (c .trace) k (suc t))
           → recordBy c (suc t) j ≡ recordBy c t j
 
     idle-open : readyAt c t i ≡ Idle → isPresent (openAt c t i) ≡ false
-    idle-open e = kept-opened (demoting (c .policy)) (lowers (setupIn c) t (releasedAt c t) (stateAt c t)) (readyAt c t i) .there ∙ ap isPresent e
+    idle-open e =
+        kept-opened (demoting (c .policy)) (lowers (setupIn c) t (releasedAt c t) (stateAt c t)) (readyAt c t i) .there ∙ ap isPresent e
 
     pub turn-live : isPresent (openAt c t i) ≡ true → Live
     unfolding recordBy

@@ -1,6 +1,5 @@
 // Bytes, decimal numbers, words and lines, written into lent bytes from an index on. Each writer returns the index behind what it wrote.
 ghost use mathlib.Core.Path.{_≡_};
-ghost use mathlib.Core.List.{_∷_};
 ghost use Prim.Native.Nat.{_+_, _<_, _≤_};
 ghost use lib.ListN.{length};
 ghost use Rattle.rules.specs.Text.{digitsOf};

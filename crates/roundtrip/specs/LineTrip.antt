@@ -3,14 +3,13 @@
 use mathlib.Core.Path.{_≡_, refl, sym, ap, _∙_}
 use mathlib.Core.Bool.{true}
 use mathlib.Core.List.{List, [], _∷_, _++_}
-use Prim.Native.Nat.{ℕ, zero, suc, _+_, _^_, _≤_, _<_}
+use Prim.Native.Nat.{ℕ, _^_, _≤_, _<_}
 use native.Mathlib.Omega.{arith}
-use lib.Dec.{eqb}
 use lib.ListN.{length}
 use Rattle.rules.specs.declared.Line.{Line}
 use Rattle.rules.specs.declared.Line.the-variants.{Bad, Procs, Policy, Row, End, Release}
 use Rattle.rules.specs.Text.{newlineByte, tabByte, same, has, fieldOf, afterField, digitsOf, procsWord, policyWord, taskWord, endWord, releaseWord}
-use Rattle.rules.specs.Policies.{maxPolicy, policyName, policyOf}
+use Rattle.rules.specs.Policies.{maxPolicy, policyName}
 use Rattle.rules.specs.Reader.{withNumber, oneNumber, twoNumbers, threeNumbers, policyIn, wordKind, fieldsSay, lineSays, kindOf}
 use Rattle.rules.specs.Writer.{lineText}
 use Rattle.lists.specs.Lists.{picked}

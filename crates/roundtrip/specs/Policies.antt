@@ -1,5 +1,5 @@
--- The reader cannot meet 14 (document 01, "Refusals by number"): the policy of a text is one of the policies, whatever its bytes are. It is so of each
--- line that `lineSays` reads, and so of the case that `caseIn` makes of them.
+-- The reader cannot meet 14 (document 01, "Refusals by number"): the policy of a text is one of the policies, whatever its bytes are. It is
+-- so of each line that `lineSays` reads, and so of the case that `caseIn` makes of them.
 use Prim.Native.Nat.{ℕ, zero, suc, _≤_}
 use mathlib.Core.Path.{_≡_}
 use mathlib.Core.Bool.{Bool, true, false}
@@ -46,7 +46,8 @@ two-known : (s : List ℕ) (say : ℕ → ℕ → Line) → ((a b : ℕ) → pol
 unfolding twoNumbers
 two-known s say h = number-known (numberIn (fieldOf s)) (λ a. oneNumber (afterField s) (say a)) (λ a. one-known (afterField s) (say a) (h a))
 
-three-known : (s : List ℕ) (say : ℕ → ℕ → ℕ → Line) → ((a b d : ℕ) → policyIs (say a b d) ≤ maxPolicy) → policyIs (threeNumbers s say) ≤ maxPolicy
+three-known : (s : List ℕ) (say : ℕ → ℕ → ℕ → Line) → ((a b d : ℕ) → policyIs (say a b d) ≤ maxPolicy)
+    → policyIs (threeNumbers s say) ≤ maxPolicy
 unfolding threeNumbers
 three-known s say h = number-known (numberIn (fieldOf s)) (λ a. twoNumbers (afterField s) (say a)) (λ a. two-known (afterField s) (say a) (h a))
 

@@ -1,6 +1,6 @@
 -- The policies (document 01, "The model": policy 0 is EDF, policy 1 is EDF-CF; "What happens at time t" and "The case text"): their
 -- numbers, their words, which of them demote and where the free count of each comes from. Nothing else tells one policy from another.
-use Prim.Native.Nat.{ℕ, zero, suc}
+use Prim.Native.Nat.{ℕ, suc}
 use mathlib.Core.Bool.{Bool}
 use mathlib.Core.List.{List, [], _∷_}
 use lib.Dec.{eqb}

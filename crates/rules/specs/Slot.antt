@@ -67,6 +67,12 @@ leftOf Idle = 0
 leftOf (Normal left free due) = left
 leftOf (Demoted left due) = left
 
+-- the remaining free count: a demoted job carries none
+abbrev pub freeOf : Job → ℕ
+freeOf Idle = 0
+freeOf (Normal left free due) = free
+freeOf (Demoted left due) = 0
+
 -- the absolute deadline
 abbrev pub dueOf : Job → ℕ
 dueOf Idle = 0
@@ -179,6 +185,10 @@ chosen g now r i = present r i && ltb (rank g now r i) (g .procs)
 abbrev pub lastUnit : ℕ → Bool
 lastUnit left = leb left 1
 
+-- whether the job's next unit is its last
+abbrev pub isLast : Job → Bool
+isLast j = lastUnit (leftOf j)
+
 abbrev pub workedJob : Job → Job
 workedJob Idle = Idle
 workedJob (Normal left free due) = pick (lastUnit left) Idle (Normal (left - 1) free due)
@@ -198,7 +208,7 @@ unfoldable pub ran : Setup → ℕ → TaskSet → Run → TaskSet
 ran g now released r i = chosen g now (opened g now released r) i
 
 unfoldable pub finished : Setup → ℕ → TaskSet → Run → TaskSet
-finished g now released r i = ran g now released r i && lastUnit (leftOf (jobAt (opened g now released r) i))
+finished g now released r i = ran g now released r i && isLast (jobAt (opened g now released r) i)
 
 unfoldable pub missed : Setup → ℕ → TaskSet → Run → TaskSet
 missed g now released r i = isMissed now (jobAt r i)

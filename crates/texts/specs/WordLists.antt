@@ -1,15 +1,14 @@
 -- Lists of words (`placeFrom` of rules, Policies): a test that holds of every word of a list, words of which no two are the same, and that
 -- a word is found at its own place and nowhere else. A word more in such a list is tested by computing and needs no law.
-use mathlib.Core.Path.{_≡_, refl, sym, ap, _∙_}
-use mathlib.Core.Bool.{Bool, true, false, _&&_, not, true≢false}
+use mathlib.Core.Path.{_≡_, refl, sym, _∙_}
+use mathlib.Core.Bool.{Bool, true, false, _&&_, not}
 use mathlib.Core.List.{List, [], _∷_}
 use Prim.Native.Nat.{ℕ, zero, suc, _+_, _≤_, _<_}
 use native.Mathlib.Nat.{add-zero, add-suc, suc-add}
 use native.Mathlib.Omega.{arith}
-use lib.Dec.{eqb, leb}
+use lib.Dec.{leb}
 use lib.ListN.{length, getD}
 use borrow.Author.Tests.{eq-eqb, leb-true}
-use Rattle.rules.specs.Words.{pick}
 use Rattle.rules.specs.Text.{newlineByte, tabByte, same, has}
 use Rattle.rules.specs.Policies.{placeFrom}
 use Rattle.rules.specs.declared.Num.{Num}

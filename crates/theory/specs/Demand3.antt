@@ -1,13 +1,13 @@
 -- Demand 3, proved of the definitions of rules: what document 01's steps promise of every accepted case and of every job whose deadline is
 -- not after the end. The statements are about the slots and records of the replay itself; parts 1 and 2 stand first for any course.
 use mathlib.Core.Path.{_≡_, refl, ap, sym, _∙_}
-use mathlib.Core.Bool.{Bool, true, false≢true, true≢false}
+use mathlib.Core.Bool.{Bool, true, false, true≢false}
 use mathlib.Core.Logic.{inl, inr}
 use Prim.Native.Nat.{ℕ, _+_, _≤_, _<_}
 use native.Mathlib.Omega.{arith}
 use lib.Dec.{leb}
 use Rattle.rules.specs.declared.Job.{Job}
-use Rattle.rules.specs.declared.Job.the-variants.{Idle, Normal, Demoted}
+use Rattle.rules.specs.declared.Job.the-variants.{Idle, Normal}
 use Rattle.rules.specs.Words.{countIn}
 use Rattle.rules.specs.Case.{Case, under, deadline, releaseCount, timeOf}
 use Rattle.rules.specs.Counts.{count, freeCount}
@@ -31,9 +31,9 @@ use Rattle.theory.specs.Verdicts.{met-by-finish, finish-of-met}
 
 -- ---- one job
 
--- 2 for one job with any free count. A job is released at a with execution C ≥ 1 and free count F, and its slots go by steps 3 to 6 of
--- a policy that demotes. If F is at most the number of contention-free slots among its first D, and it is worked in each of these that finds it there,
--- then, once demoted, it is finished after D slots. How F comes about is not asked, nor what the other jobs do.
+-- 2 for one job with any free count. A job is released at a with execution C ≥ 1 and free count F, and its slots go by steps 3 to 6 of a
+-- policy that demotes. If F is at most the number of contention-free slots among its first D, and it is worked in each of these that
+-- finds it there, then, once demoted, it is finished after D slots. How F comes about is not asked, nor what the other jobs do.
 pub any-count-finishes : (calm works : ℕ → Bool) (a C F due D : ℕ) → 1 ≤ C → Attended calm works a (Normal C F due) D → F ≤ countIn calm a D
     → (n : ℕ) → n ≤ D → isDemoted (story calm works a (Normal C F due) n) ≡ true → story calm works a (Normal C F due) D ≡ Idle
 any-count-finishes calm works a C F due D some att enough n h low = low-finishes calm works a C F due D some att enough n h low
@@ -47,7 +47,8 @@ course-free-slots k g a l = enough k g a l
 -- 2 for a course. A job of the task at i is released at a, and nothing more of the task before that job's deadline. If its free count is
 -- at most the number of contention-free slots from release to deadline, and every job that is there in a contention-free slot is worked
 -- in it, then the job, once demoted, finishes by its deadline. What the other tasks release is not asked.
-pub course-demoted-finishes : (k : Course) (e i a : ℕ) → Alone k i a → demoting (k .setup .policy) ≡ true → Attends k e → a + deadline (k .setup .table) i ≤ e
+pub course-demoted-finishes : (k : Course) (e i a : ℕ) → Alone k i a → demoting (k .setup .policy) ≡ true → Attends k e
+    → a + deadline (k .setup .table) i ≤ e
     → freeCountIn (k .setup) i ≤ countIn (contentionFreeIn k) a (deadline (k .setup .table) i) → 0 < demotionIn k i a
     → (a < finishIn k i a) × (finishIn k i a ≤ a + deadline (k .setup .table) i)
 unfolding finishIn
@@ -81,8 +82,8 @@ free-slots c ok j h =
     let D = deadline (c .table) (taskAt c j) in
     omega (arith, course-free-slots (replayOf c) (lawful c (legal c ok)) a D, count-cong (contentionFreeIn (replayOf c)) (contentionFreeAt c) a D (λ t x y. replay-free c t))
 
--- 2. Of an accepted case under a policy that demotes, whatever the other tasks release: a job whose record says that it was demoted has a record that
--- says met, with a finish after its release and not after its deadline.
+-- 2. Of an accepted case under a policy that demotes, whatever the other tasks release: a job whose record says that it was demoted has a
+-- record that says met, with a finish after its release and not after its deadline.
 pub demoted-meets : (c : Case) → Accepted c → demoting (c .policy) ≡ true → (j : ℕ) → Judged c j → 0 < recordBy c (c .end) j .demotion
     → (recordBy c (c .end) j .verdict ≡ 1) × (timeOf (c .trace) j < recordBy c (c .end) j .finish) × (recordBy c (c .end) j .finish ≤ dueAt c j)
 unfolding recordBy verdictBy
@@ -122,9 +123,11 @@ edf-met-stays-met c ok cf j h e = go (stand-due E e-legal j (h .0) (c .end) (h .
 
     -- what is idle under EDF and there under the policy is demoted
     only-demoted : (x y : Job) → Dom x y → x ≡ Idle → isPresent y ≡ true → isDemoted y ≡ true
-    only-demoted x Idle d z p = absurd (false≢true p)
-    only-demoted x (Demoted l u) d z p = refl
-    only-demoted x (Normal l f u) d z p = absurd (true≢false (sym (d .0) ∙ ap isPresent z))
+    only-demoted x y d z p = low (isDemoted y) refl
+      where
+        low : (b : Bool) → isDemoted y ≡ b → isDemoted y ≡ true
+        low true q = q
+        low false q = absurd (true≢false (sym (d p q .there) ∙ ap isPresent z))
 
     go : Stand (finishBy E i a (c .end)) (demotionBy E i a (c .end)) due (jobAt (stateAt E due) i)
         → Stand (finishBy c i a (c .end)) (demotionBy c i a (c .end)) due (jobAt (stateAt c due) i)
@@ -135,7 +138,8 @@ edf-met-stays-met c ok cf j h e = go (stand-due E e-legal j (h .0) (c .end) (h .
     go (inr (p, z)) (inr (q, y)) = met-by-finish _ _ q
     go (inr (p, z)) (inl (y, v)) =
         absurd (none-demoted-due c c-legal j (h .0) (c .end) (h .1) cf
-        (only-demoted (jobAt (stateAt E due) i) (jobAt (stateAt c due) i) (dominated c cf due i (sole c c-legal j (h .0) .task)) z (v .there)))
+        (only-demoted (jobAt (stateAt E due) i) (jobAt (stateAt c due) i)
+        (dominated c cf due i (sole c c-legal j (h .0) .task)) z (v .there)))
 
 -- 3 of document 01's two policies, whatever the case's own: met under EDF is met under EDF-CF
 pub edf-met-stays-met-cf : (c : Case) → Accepted c → (j : ℕ) → Judged c j

@@ -58,8 +58,8 @@ set-A = (refl, refl, refl, refl)
 
 -- the free count is reached exactly: task 1's is 1, and of its 4 slots just 1 is contention-free, under either policy. The job is demoted
 -- at its release and finishes at its deadline.
-pub exactly-reached : (freeCount 1 (tight edfCf .table) 0 ≡ 1) × (countIn (contentionFreeAt (tight edf)) 0 4 ≡ 1) × (countIn (contentionFreeAt (tight edfCf)) 0 4 ≡ 1)
-    × (recordBy (tight edfCf) 4 0 ≡ recordOf 1 4 1)
+pub exactly-reached : (freeCount 1 (tight edfCf .table) 0 ≡ 1) × (countIn (contentionFreeAt (tight edf)) 0 4 ≡ 1)
+    × (countIn (contentionFreeAt (tight edfCf)) 0 4 ≡ 1) × (recordBy (tight edfCf) 4 0 ≡ recordOf 1 4 1)
 unfolding sum firstIn tab mapFrom availability availabilities count freeCount
     present judged joined demoted jobsNow contentionFree lowered opened jobBefore rank chosen worked after ran finished demotedNow
     releasedIn stateFrom stateAt ranAt finishedAt demotedAt contentionFreeAt slotsBy finishBy demotionBy verdictBy recordBy

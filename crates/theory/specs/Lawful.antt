@@ -31,7 +31,8 @@ pub record Lawful (k : Course) : Type 0 where
 -- ---- the jobs of a slot
 module _ (k : Course) where
   module _ (t i : ℕ) (l : i < 32) where
-    pub kept-in : Kept (foundIn k t i) (openIn k t i) (isDemoted (foundIn k t i) || (demoting (k .setup .policy) && isDemotedNow (foundIn k t i)))
+    pub kept-in : Kept (foundIn k t i) (openIn k t i)
+        (isDemoted (foundIn k t i) || (demoting (k .setup .policy) && isDemotedNow (foundIn k t i)))
     kept-in = kept-opened (demoting (k .setup .policy)) (demoting (k .setup .policy) && contentionFreeIn k t) (foundIn k t i)
 
     pub present-in : present (openedIn k t) i ≡ isPresent (foundIn k t i)

@@ -2,9 +2,9 @@
 use mathlib.Core.Path.{ap, _∙_}
 use Rattle.rules.specs.Answers.{result}
 use Rattle.rules.specs.Calls.{replayAnswer, replayRoom}
-use Rattle.legal.specs.Legal.{legal}
+use Rattle.legal.specs.Legal.{legal, accepted-procs, accepted-table, replay-clear}
 use Rattle.legal.specs.Settled.{refuses, leaves, settles, puts, clear}
-use Rattle.engine.proofs.Calls.{sound, replay-clear, still-fits, total, totals}
+use Rattle.engine.proofs.Calls.{still-fits, total, totals}
 use borrow.Author.Needs.{needs}
 use Rattle.engine.proofs.replay.Statement.{statement}
 use Rattle.engine.proofs.replay.Tie as tie
@@ -21,7 +21,7 @@ returns c =
 free-counts-requires : tie.Need-free-counts-requires
 free-counts-requires c κs =
     let w = replay-clear _ _ (clear _ _ (c .before .replay-fault .ensures) (c .if1 .left)) in
-    (sound _ (w .0), legal _ (w .0) .procs-few)
+    (accepted-table _ (w .0), accepted-procs _ (w .0))
 
 replay-run-requires : tie.Need-replay-run-requires
 replay-run-requires c κs =

@@ -7,9 +7,8 @@ use native.Mathlib.Numerals.{add-one}
 use native.Mathlib.Omega.{arith}
 use Rattle.rules.specs.Answers.{result}
 use Rattle.rules.specs.Calls.{runningAnswer}
-use Rattle.legal.specs.Legal.{legal}
+use Rattle.legal.specs.Legal.{legal, accepted-procs, accepted-table, running-clear}
 use Rattle.legal.specs.Settled.{refuses, settles, clear}
-use Rattle.engine.proofs.Calls.{sound, running-clear}
 use Rattle.engine.proofs.Powers.{array-number}
 use borrow.Author.Needs.{needs}
 use Rattle.engine.proofs.running.Statement.{statement}
@@ -25,7 +24,7 @@ returns c = record { answer = refuses _ _ (c .before .running-fault .ensures) _ 
 free-counts-requires : tie.Need-free-counts-requires
 free-counts-requires c κs =
     let w = running-clear _ _ (clear _ _ (c .before .running-fault .ensures) (c .if1 .left)) in
-    (sound _ (w .0), legal _ (w .0) .procs-few)
+    (accepted-table _ (w .0), accepted-procs _ (w .0))
 
 fresh-run-requires : tie.Need-fresh-run-requires
 fresh-run-requires c κs = search needs

@@ -1,5 +1,5 @@
 -- `policies::put_policy` meets its contract: the byte, and behind it the word that the number chooses.
-use mathlib.Core.Path.{_≡_, ap, _∙_}
+use mathlib.Core.Path.{ap, _∙_}
 use Prim.Native.Nat.{ℕ}
 use native.Mathlib.Omega.{arith}
 use lib.ListN.{length, length-set}
@@ -43,7 +43,8 @@ returns : tie.Need-returns
 unfolding policyName
 returns c =
     let a = c .before .before .before .before .before .before .before .args in
-    rw (c .before .before .before .before .before .match .keys1) (laid-then (laid-byte (a .at) (a .between) (a .out .now)) (c .before .before .put-bytes .ensures))
+    rw (c .before .before .before .before .before .match .keys1)
+    (laid-then (laid-byte (a .at) (a .between) (a .out .now)) (c .before .before .put-bytes .ensures))
 
 same-length-2 : tie.Need-same-length-2
 same-length-2 c = c .before .before .put-bytes2 .kept .0 ∙ simp length-set
@@ -52,7 +53,8 @@ returns-2 : tie.Need-returns-2
 unfolding policyName
 returns-2 c =
     let a = c .before .before .before .before .before .before .before .args in
-    rw (c .before .before .before .before .before .match .keys2) (laid-then (laid-byte (a .at) (a .between) (a .out .now)) (c .before .before .put-bytes2 .ensures))
+    rw (c .before .before .before .before .before .match .keys2)
+    (laid-then (laid-byte (a .at) (a .between) (a .out .now)) (c .before .before .put-bytes2 .ensures))
 
 same-length-3 : tie.Need-same-length-3
 same-length-3 c = search needs

@@ -1,7 +1,7 @@
 -- `report::put_free_counts` meets its contract.
 use native.Mathlib.Omega.{arith}
 use Rattle.rules.specs.Limits.{maxTasks}
-use Rattle.checks.proofs.Rows.{counts-clear}
+use Rattle.legal.specs.Legal.{counts-clear}
 use Rattle.report.proofs.Commands.{counts-accepts, counts-number, counts-long, counts-shown}
 use borrow.Author.Needs.{needs}
 use Rattle.report.proofs.put_free_counts.Statement.{statement}
