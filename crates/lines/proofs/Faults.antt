@@ -1,18 +1,20 @@
--- Laws of `linesFault`: what is at fault with the next line is the answer, and else what is at fault with those after it.
+-- Laws of `linesFault`, under any order of lines: what is at fault with the next line is the answer, and else what is at fault with
+-- those after it.
 use mathlib.Core.Path.{_≡_, refl, sym, _∙_}
 use mathlib.Core.Bool.{Bool, true, false, not}
 use mathlib.Core.List.{List, [], _∷_}
 use Prim.Native.Nat.{ℕ, suc, _<_}
 use native.Mathlib.Omega.{arith}
 use lib.Dec.{eqb}
-use borrow.Author.Tests.{eqb-true, ne-eqb}
+use borrow.Author.Tests.{eqb-true, eqb-false, ne-eqb, not-true}
 use Rattle.rules.specs.Words.{pick}
 use Rattle.rules.specs.Refusals.{faultOf, noFault, unless, orNext}
-use Rattle.rules.specs.Reader.{kindOf, mayFollow, mayStop, linesFault}
+use Rattle.rules.specs.Reader.{kindOf, Order, linesFault}
 use Rattle.rules.specs.declared.Fault.{Fault}
 use Rattle.rules.specs.declared.Line.{Line}
 use Rattle.legal.specs.Firsts.{next-none}
-use Rattle.legal.specs.Legal.{next-clear}
+use Rattle.legal.specs.Legal.{next-clear, unless-clear}
+use Rattle.kinds.specs.Says.{Opens}
 use Rattle.lines.specs.Held.{lineFault}
 
 -- nothing follows a fault
@@ -28,16 +30,6 @@ unless-none : (b : Bool) (n p : ℕ) → 0 < n → unless b n p .number ≡ 0 �
 unless-none true n p h e = refl
 unless-none false n p h e = absurd (omega arith)
 
--- where no line is at fault the place is 0
-lines-clear : (b n : ℕ) (ls : List Line) → linesFault b n ls .number ≡ 0 → linesFault b n ls ≡ noFault
-unfolding linesFault
-lines-clear b n [] e = unless-none (mayStop b) 3 n (omega arith) e
-lines-clear b n (l ∷ ls) e =
-    let f = next-clear (unless (not (eqb (kindOf l) 0)) 2 n) _ e in
-    let g = next-clear (unless (mayFollow b (kindOf l)) 3 n) _ (f .1) in
-    let r = next-clear (linesFault (kindOf l) (suc n) ls) noFault (g .1) in
-    next-none _ _ (f .0) ∙ next-none _ _ (g .0) ∙ next-none _ _ (r .0)
-
 -- of two tests that find something, what follows them is not asked
 two-hit : (a b r : Fault) → (orNext a (orNext b noFault) .number ≡ 0 → ⊥) → orNext a (orNext b noFault) ≡ orNext a (orNext b r)
 unfolding orNext
@@ -48,30 +40,52 @@ two-hit a b r h = go (eqb (a .number) 0) (eqb (b .number) 0) h
     go true false k = refl
     go false y k = refl
 
-pub fault-here : (b n : ℕ) (l : Line) (ls : List Line) → (lineFault b (kindOf l) n .number ≡ 0 → ⊥) → lineFault b (kindOf l) n ≡ linesFault b n (l ∷ ls)
-unfolding lineFault linesFault
-fault-here b n l ls h = two-hit _ _ _ h
+module _ (o : Order) where
+  -- where no line is at fault the place is 0
+  lines-clear : (b n : ℕ) (ls : List Line) → linesFault o b n ls .number ≡ 0 → linesFault o b n ls ≡ noFault
+  unfolding linesFault
+  lines-clear b n [] e = unless-none (o .stops b) 3 n (omega arith) e
+  lines-clear b n (l ∷ ls) e =
+      let f = next-clear (unless (not (eqb (kindOf l) 0)) 2 n) _ e in
+      let g = next-clear (unless (o .follows b (kindOf l)) 3 n) _ (f .1) in
+      let r = next-clear (linesFault o (kindOf l) (suc n) ls) noFault (g .1) in
+      next-none _ _ (f .0) ∙ next-none _ _ (g .0) ∙ next-none _ _ (r .0)
 
-pub fault-later : (b n : ℕ) (l : Line) (ls : List Line) → lineFault b (kindOf l) n .number ≡ 0 → linesFault b n (l ∷ ls) ≡ linesFault (kindOf l) (suc n) ls
-unfolding lineFault linesFault
-fault-later b n l ls e =
-    let f = next-clear (unless (not (eqb (kindOf l) 0)) 2 n) _ e in
-    let g = next-clear (unless (mayFollow b (kindOf l)) 3 n) noFault (f .1) in
-    next-none _ _ (f .0) ∙ next-none _ _ (g .0) ∙ next-last _ (lines-clear (kindOf l) (suc n) ls)
+  pub fault-here : (b n : ℕ) (l : Line) (ls : List Line) → (lineFault o b (kindOf l) n .number ≡ 0 → ⊥)
+      → lineFault o b (kindOf l) n ≡ linesFault o b n (l ∷ ls)
+  unfolding lineFault linesFault
+  fault-here b n l ls h = two-hit _ _ _ h
 
-pub fault-stop : (b n : ℕ) → linesFault b n [] ≡ unless (mayStop b) 3 n
-unfolding linesFault
-fault-stop b n = refl
+  pub fault-later : (b n : ℕ) (l : Line) (ls : List Line) → lineFault o b (kindOf l) n .number ≡ 0
+      → linesFault o b n (l ∷ ls) ≡ linesFault o (kindOf l) (suc n) ls
+  unfolding lineFault linesFault
+  fault-later b n l ls e =
+      let f = next-clear (unless (not (eqb (kindOf l) 0)) 2 n) _ e in
+      let g = next-clear (unless (o .follows b (kindOf l)) 3 n) noFault (f .1) in
+      next-none _ _ (f .0) ∙ next-none _ _ (g .0) ∙ next-last _ (lines-clear (kindOf l) (suc n) ls)
 
--- ---- what is at fault with one line
-pub line-bad : (b k n : ℕ) → k ≡ 0 → faultOf 2 n ≡ lineFault b k n
-unfolding lineFault orNext
-line-bad b k n e = rw e
+  pub fault-stop : (b n : ℕ) → linesFault o b n [] ≡ unless (o .stops b) 3 n
+  unfolding linesFault
+  fault-stop b n = refl
 
-pub line-off : (b k n : ℕ) → (k ≡ 0 → ⊥) → mayFollow b k ≡ false → faultOf 3 n ≡ lineFault b k n
-unfolding lineFault orNext
-line-off b k n h e = rw (ne-eqb k 0 h, e)
+  -- ---- what is at fault with one line
+  pub line-bad : (b k n : ℕ) → k ≡ 0 → faultOf 2 n ≡ lineFault o b k n
+  unfolding lineFault orNext
+  line-bad b k n e = rw e
 
-pub line-stands : (b k n : ℕ) → (k ≡ 0 → ⊥) → mayFollow b k ≡ true → noFault ≡ lineFault b k n
-unfolding lineFault orNext
-line-stands b k n h e = rw (ne-eqb k 0 h, e)
+  pub line-off : (b k n : ℕ) → (k ≡ 0 → ⊥) → o .follows b k ≡ false → faultOf 3 n ≡ lineFault o b k n
+  unfolding lineFault orNext
+  line-off b k n h e = rw (ne-eqb k 0 h, e)
+
+  pub line-stands : (b k n : ℕ) → (k ≡ 0 → ⊥) → o .follows b k ≡ true → noFault ≡ lineFault o b k n
+  unfolding lineFault orNext
+  line-stands b k n h e = rw (ne-eqb k 0 h, e)
+
+  -- a line with nothing at fault is of the kind that its word opens, which may follow
+  pub line-follows : (b k n : ℕ) (l : Line) → Opens k l → lineFault o b (kindOf l) n .number ≡ 0
+      → (kindOf l ≡ k) × (o .follows b (kindOf l) ≡ true)
+  unfolding lineFault
+  line-follows b k n l h e =
+      let f = next-clear (unless (not (eqb (kindOf l) 0)) 2 n) _ e in
+      let g = next-clear (unless (o .follows b (kindOf l)) 3 n) noFault (f .1) in
+      (h (eqb-false (kindOf l) 0 (not-true _ (unless-clear _ 2 n (omega arith) (f .0)))), unless-clear _ 3 n (omega arith) (g .0))

@@ -6,13 +6,13 @@ use native.Mathlib.Omega.{arith}
 use lib.ListN.{take, length-take}
 use lib.Seq.{take-take, take-all}
 use Rattle.rules.specs.Case.{Case, caseOf}
-use Rattle.rules.specs.Reader.{withLine, withLines, caseIn, linesOf}
+use Rattle.rules.specs.Reader.{withLine, withLines}
 use Rattle.rules.specs.declared.Line.{Line}
 use Rattle.rules.specs.declared.Line.the-variants.{Bad, Procs, Policy, Row, End, Release}
 use Rattle.lines.specs.declared.Head.{Head}
-use Rattle.lines.specs.Held.{tableRoom, traceRoom, clip, noHead, headOf, headWith, rowNumbers, releaseNumbers, keptCase}
+use Rattle.lines.specs.Held.{tableRoom, traceRoom, clip, headOf, headWith, rowNumbers, releaseNumbers, keptCase}
 
-take-clipped : (n : ℕ) (xs ys : List ℕ) → take n (take n xs ++ ys) ≡ take n (xs ++ ys)
+pub take-clipped : (n : ℕ) (xs ys : List ℕ) → take n (take n xs ++ ys) ≡ take n (xs ++ ys)
 take-clipped zero xs ys = refl
 take-clipped (suc n) [] ys = refl
 take-clipped (suc n) (x ∷ xs) ys = ap (λ (l : List ℕ). x ∷ l) (take-clipped n xs ys)
@@ -58,14 +58,3 @@ kept-line h t r table trace l ls t′ r′ table′ trace′ p q =
     let c = keptCase h t table r trace in
     sym (clip-lines (withLine c l) ls) ∙
     ap (λ (d : Case). clip (withLines d ls)) (line-kept c l ∙ sym (ap₂ (with-head (headWith h l)) p q))
-
--- no line read
-pub kept-none : (s table trace : List ℕ) → clip (caseIn s) ≡ clip (withLines (keptCase noHead 0 table 0 trace) (linesOf s))
-unfolding caseIn
-kept-none s table trace = refl
-
--- no line left: all that is kept has room
-pub kept-all : (h : Head) (t r : ℕ) (table trace : List ℕ) → t ≤ tableRoom → r ≤ traceRoom → clip (withLines (keptCase h t table r trace) []) ≡ keptCase h t table r trace
-unfolding withLines clip
-kept-all h t r table trace p q =
-    ap₂ (with-head h) (take-all tableRoom (take t table) (omega (arith, length-take t table))) (take-all traceRoom (take r trace) (omega (arith, length-take r trace)))

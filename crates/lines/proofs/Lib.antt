@@ -3,3 +3,6 @@ pub mod Faults
 pub mod Keeps
 pub mod Stores
 pub mod Reading
+pub mod Heading
+pub mod Releasing
+pub mod Gathering

@@ -10,6 +10,7 @@ use lib.Seq.{take-all, take-at, take-append-le, length-take-le, sets, sets-eq, l
 use types.Run.{OneOf}
 use denote.Enum.Declared.{tagOf}
 use Rattle.rules.proofs.Line.{the-type}
+use Rattle.rules.specs.Reader.{kindOf}
 use Rattle.rules.specs.declared.Line.{Line}
 use Rattle.rules.specs.declared.Line.the-variants.{Bad, Procs, Policy, Row, End, Release}
 use Rattle.lines.specs.Held.{rowNumbers, releaseNumbers, Whole, Added}
@@ -59,6 +60,15 @@ module _ (room width n : ℕ) (old : List ℕ) (w : Whole room width n old) wher
 
 none-of-five : {a b d e f x : ℕ} → OneOf (a ∷ b ∷ d ∷ e ∷ f ∷ []) x → (x ≡ a → ⊥) → (x ≡ b → ⊥) → (x ≡ d → ⊥) → (x ≡ e → ⊥) → (x ≡ f → ⊥) → ⊥
 none-of-five h p q r s t = ⊎-elim p (⊎-elim q (⊎-elim r (⊎-elim s t))) h
+
+-- a line that is not badly formed has a kind
+pub not-bad : (l : Line) → OneOf (1 ∷ 2 ∷ 3 ∷ 4 ∷ 5 ∷ []) (tagOf the-type l) → kindOf l ≡ 0 → ⊥
+not-bad Bad h e = none-of-five h (λ z. omega arith) (λ z. omega arith) (λ z. omega arith) (λ z. omega arith) (λ z. omega arith)
+not-bad (Procs m) h e = omega arith
+not-bad (Policy p) h e = omega arith
+not-bad (Row T C D) h e = omega arith
+not-bad (End x) h e = omega arith
+not-bad (Release t n) h e = omega arith
 
 -- a line of another kind adds no numbers
 pub not-row : (l : Line) → OneOf (0 ∷ 1 ∷ 2 ∷ 4 ∷ 5 ∷ []) (tagOf the-type l) → rowNumbers l ≡ []

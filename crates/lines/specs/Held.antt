@@ -1,38 +1,37 @@
 -- What the reader keeps of a case while it reads the lines (rules, Reader): the case itself, but of its tasks and releases no more than
--- decides what is at fault. One task and one release more than may stand are enough for that. The contract of `gather` says it all.
-use Prim.Native.Nat.{ℕ, _%_, _≤_}
+-- decides what is at fault. One task and one release more than may stand are enough for that.
+use Prim.Native.Nat.{ℕ, _+_, _*_, _%_, _≤_}
 use mathlib.Core.Path.{_≡_}
 use mathlib.Core.Bool.{not}
 use mathlib.Core.List.{List, [], _∷_, _++_}
 use lib.Dec.{eqb}
 use lib.ListN.{length, take}
 use Rattle.rules.specs.Words.{pick}
-use Rattle.rules.specs.Limits.{taskWidth, releaseWidth}
+use Rattle.rules.specs.Limits.{maxTasks, maxReleases, taskWidth, releaseWidth}
 use Rattle.rules.specs.Case.{Case, caseOf}
-use Rattle.rules.specs.Refusals.{unless, first}
+use Rattle.rules.specs.Refusals.{noFault, unless, first}
 use Rattle.rules.specs.Text.{newlineByte, has, lineOf}
-use Rattle.rules.specs.Reader.{lineSays, linesOf, linesFault, mayFollow, policyWhenAbsent, caseIn}
+use Rattle.rules.specs.Reader.{lineSays, Order, policyWhenAbsent}
 use Rattle.rules.specs.declared.Fault.{Fault}
 use Rattle.rules.specs.declared.Line.{Line}
 use Rattle.rules.specs.declared.Line.the-variants.{Bad, Procs, Policy, Row, End, Release}
 use Rattle.lines.specs.declared.Head.{Head}
-use Rattle.lines.specs.declared.Gathered.{Gathered}
+use Rattle.lines.specs.declared.HeadRead.{HeadRead}
 
--- room for 33 tasks
+-- room for one task, and for one release, more than a case may have
 abbrev pub tableRoom : ℕ
-tableRoom = 99
+tableRoom = (maxTasks + 1) * taskWidth
 
--- room for 2,001 releases
 abbrev pub traceRoom : ℕ
-traceRoom = 4002
+traceRoom = (maxReleases + 1) * releaseWidth
 
 -- as much of a case as there is room for
 unfoldable pub clip : Case → Case
 clip c = caseOf (c .procs) (c .policy) (take tableRoom (c .table)) (c .end) (take traceRoom (c .trace))
 
 -- what is at fault with line n, of kind k: 2 before 3
-unfoldable pub lineFault : ℕ → ℕ → ℕ → Fault
-lineFault before k n = first (unless (not (eqb k 0)) 2 n ∷ unless (mayFollow before k) 3 n ∷ [])
+unfoldable pub lineFault : Order → ℕ → ℕ → ℕ → Fault
+lineFault o before k n = first (unless (not (eqb k 0)) 2 n ∷ unless (o .follows before k) 3 n ∷ [])
 
 -- what the first line of what is unread says
 unfoldable pub nextSays : List ℕ → Line
@@ -44,6 +43,10 @@ headOf m p e = record { procs = m; policy = p; end = e }
 -- the head before the first line
 abbrev pub noHead : Head
 noHead = headOf 0 policyWhenAbsent 0
+
+-- no line read: line 1 is the next, at the start of the text
+abbrev pub noLines : HeadRead
+noLines = record { fault = noFault; head = noHead; tasks = 0; before = 0; line = 1; next = 0 }
 
 -- the head with what one more line says
 abbrev pub headWith : Head → Line → Head
@@ -71,6 +74,11 @@ releaseNumbers (Row T C D) = []
 releaseNumbers (End e) = []
 releaseNumbers (Release t n) = t ∷ n ∷ []
 
+-- the trace that some lines say
+unfoldable pub traceOf : List Line → List ℕ
+traceOf [] = []
+traceOf (l ∷ ls) = releaseNumbers l ++ traceOf ls
+
 -- a room of that size in which n numbers are kept, a whole number of tasks or releases
 pub record Whole (room width n : ℕ) (xs : List ℕ) : Type 0 where
   pub long : length xs ≡ room
@@ -85,10 +93,3 @@ pub record Added (room width n : ℕ) (new old : List ℕ) (n′ : ℕ) (xs : Li
 -- the case that is kept: a head, and so many of the numbers of each room
 abbrev pub keptCase : Head → ℕ → List ℕ → ℕ → List ℕ → Case
 keptCase h t table r trace = caseOf (h .procs) (h .policy) (take t table) (h .end) (take r trace)
-
--- what the lines of a text come to
-pub record Gathers (s : List ℕ) (g : Gathered) (table trace : List ℕ) : Type 0 where
-  pub fault : g .fault ≡ linesFault 0 1 (linesOf s)
-  pub kept : g .fault .number ≡ 0 → clip (caseIn s) ≡ keptCase (g .head) (g .tasks) table (g .releases) trace
-  pub tasks : Whole tableRoom taskWidth (g .tasks) table
-  pub releases : Whole traceRoom releaseWidth (g .releases) trace

@@ -24,16 +24,16 @@ countWord = 99 ∷ 111 ∷ 117 ∷ 110 ∷ 116 ∷ []
 abbrev pub runningWord : List ℕ
 runningWord = 114 ∷ 117 ∷ 110 ∷ 110 ∷ 105 ∷ 110 ∷ 103 ∷ []
 
--- the word of a line by its number: 0 to 4 in the case text, 5 to 10 in what is printed
+-- the word of a line by its number: 1 to 5 in the case text, as `wordKind` of rules has them, 6 to 11 in what is printed
 unfoldable pub wordOf : ℕ → List ℕ
 wordOf w =
-    pick (eqb w 0) procsWord
-    (pick (eqb w 1) policyWord
-    (pick (eqb w 2) taskWord
-    (pick (eqb w 3) endWord
-    (pick (eqb w 4) releaseWord
-    (pick (eqb w 5) runWord
-    (pick (eqb w 6) jobWord (pick (eqb w 7) totalWord (pick (eqb w 8) refusedWord (pick (eqb w 9) countWord runningWord)))))))))
+    pick (eqb w 1) procsWord
+    (pick (eqb w 2) policyWord
+    (pick (eqb w 3) taskWord
+    (pick (eqb w 4) endWord
+    (pick (eqb w 5) releaseWord
+    (pick (eqb w 6) jobWord
+    (pick (eqb w 7) totalWord (pick (eqb w 8) refusedWord (pick (eqb w 9) countWord (pick (eqb w 10) runningWord runWord)))))))))
 
 -- a line of a word and numbers
 abbrev pub numberLine : ℕ → ℕ → List ℕ → List ℕ

@@ -5,20 +5,13 @@ ghost use lib.ListN.{length};
 ghost use Rattle.rules.specs.Text.{digitsOf};
 ghost use Rattle.puts.specs.Laid.{Laid};
 ghost use Rattle.puts.specs.Fields.{numberFields, numberLine, wordOf};
+use rules::END;
+use rules::POLICY;
+use rules::PROCS;
+use rules::RELEASE;
+use rules::TASK;
 
-// The numbers of the line words: five of the case text, six of what is printed.
-pub const PROCS: u32 = 0;
-
-pub const POLICY: u32 = 1;
-
-pub const TASK: u32 = 2;
-
-pub const END: u32 = 3;
-
-pub const RELEASE: u32 = 4;
-
-pub const RUN: u32 = 5;
-
+// The numbers of the words of what is printed, behind those of the case text (rules, `PROCS` to `RELEASE`).
 pub const JOB: u32 = 6;
 
 pub const TOTAL: u32 = 7;
@@ -29,17 +22,19 @@ pub const COUNT: u32 = 9;
 
 pub const RUNNING: u32 = 10;
 
-// The bytes that part the fields of the case text and of what is printed.
-pub const TAB: u8 = 9;
+pub const RUN: u32 = 11;
 
-pub const SPACE: u8 = 32;
+// The bytes that part the fields of the case text and of what is printed.
+pub const TAB: u8 = b'\t';
+
+pub const SPACE: u8 = b' ';
 
 // The byte of a digit.
 fn digit(v: u32) -> u8
     requires { ⌜ v < 10 ⌝ }
     ensures { λ r. ⌜ r ≡ 48 + v ⌝ }
 {
-    48 + v as u8
+    b'0' + v as u8
 }
 
 // How many digits v has.
@@ -120,17 +115,17 @@ pub fn put_word(out: &mut [u8], word: u32) -> usize
     ensures { λ r. ⌜ Laid 0 (wordOf word) (now (out .entry)) (now (out .exit)) r ⌝ }
 {
     match word {
-        0 => put_bytes(out, 0, b"procs"),
-        1 => put_bytes(out, 0, b"policy"),
-        2 => put_bytes(out, 0, b"task"),
-        3 => put_bytes(out, 0, b"end"),
-        4 => put_bytes(out, 0, b"release"),
-        5 => put_bytes(out, 0, b"run"),
-        6 => put_bytes(out, 0, b"job"),
-        7 => put_bytes(out, 0, b"total"),
-        8 => put_bytes(out, 0, b"refused"),
-        9 => put_bytes(out, 0, b"count"),
-        _ => put_bytes(out, 0, b"running"),
+        PROCS => put_bytes(out, 0, b"procs"),
+        POLICY => put_bytes(out, 0, b"policy"),
+        TASK => put_bytes(out, 0, b"task"),
+        END => put_bytes(out, 0, b"end"),
+        RELEASE => put_bytes(out, 0, b"release"),
+        JOB => put_bytes(out, 0, b"job"),
+        TOTAL => put_bytes(out, 0, b"total"),
+        REFUSED => put_bytes(out, 0, b"refused"),
+        COUNT => put_bytes(out, 0, b"count"),
+        RUNNING => put_bytes(out, 0, b"running"),
+        _ => put_bytes(out, 0, b"run"),
     }
 }
 
@@ -141,6 +136,6 @@ pub fn put_line(out: &mut [u8], between: u8, word: u32, vs: &[u32]) -> usize
 {
     let at = put_word(out, word);
     let end = put_numbers(out, at, between, vs);
-    out[end] = 10;
+    out[end] = b'\n';
     end + 1
 }

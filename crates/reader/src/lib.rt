@@ -1,28 +1,86 @@
-// The reader of the case text: the lines are read into rooms of its own, and the lent rooms are filled once nothing is at fault.
+// The reader of the case text: the case of a text is read into rooms of its own, and put into the lent rooms once nothing is at fault.
 ghost use mathlib.Core.Path.{_≡_};
 ghost use mathlib.Core.List.{_++_};
 ghost use Prim.Native.Nat.{_≤_};
+ghost use lib.Dec.{leb};
 ghost use lib.ListN.{length, drop};
+ghost use Rattle.rules.specs.Limits.{maxText};
+ghost use Rattle.rules.specs.Case.{caseOf};
+ghost use Rattle.rules.specs.Refusals.{unless};
 ghost use Rattle.rules.specs.Answers.{refusal, takenAs};
 ghost use Rattle.rules.specs.Calls.{ReadPromise};
-ghost use Rattle.reader.specs.Start.{startFault};
+ghost use Rattle.lines.specs.Held.{tableRoom, traceRoom};
+ghost use Rattle.reader.specs.Reads.{roomsFault, ReadsCase, PutsCase};
+use lines::Gathered;
+use lines::Head;
+use lines::TABLE_ROOM;
+use lines::TRACE_ROOM;
 use rules::Fault;
+use rules::MAX_RELEASES;
+use rules::MAX_TASKS;
+use rules::MAX_TEXT;
+use rules::RELEASE_WIDTH;
+use rules::TASK_WIDTH;
 use rules::Taken;
 
-// What is at fault before a line is read: the room for 96 task and 4,000 release numbers, then the text's length.
-fn start_fault(text: usize, tasks: usize, releases: usize) -> Fault
-    ensures { λ r. ⌜ r ≡ startFault text tasks releases ⌝ }
+// The rooms that the reader needs: for as many tasks and releases as a case may have.
+const TASKS_ROOM: usize = MAX_TASKS * TASK_WIDTH;
+
+const RELEASES_ROOM: usize = MAX_RELEASES * RELEASE_WIDTH;
+
+// What is at fault with the lent rooms.
+fn rooms_fault(tasks: usize, releases: usize) -> Fault
+    ensures { λ r. ⌜ r ≡ roomsFault tasks releases ⌝ }
 {
-    if tasks < 96 {
-        return checks::fault(13, 0);
+    let short = checks::room_fault(TASKS_ROOM, tasks);
+    if short.number != 0 {
+        return short;
     }
-    if releases < 4000 {
-        return checks::fault(13, 0);
-    }
-    if 60000 < text {
+    checks::room_fault(RELEASES_ROOM, releases)
+}
+
+// What is at fault with the length of a text.
+fn length_fault(length: usize) -> Fault
+    ensures { λ r. ⌜ r ≡ unless (leb length maxText) 1 0 ⌝ }
+{
+    if MAX_TEXT < length {
         return checks::fault(1, 0);
     }
     checks::fault(0, 0)
+}
+
+// Reads the case of a text into two rooms: what is at fault with the text, or the case, whose numbers stand at the front of the rooms.
+pub fn read_case(text: &[u8], table: &mut [u32], trace: &mut [u32]) -> Gathered
+    requires { ⌜ length (now table) ≡ tableRoom ⌝ }
+    requires { ⌜ length (now trace) ≡ traceRoom ⌝ }
+    ensures { λ r. ⌜ ReadsCase (now (text .entry)) r (now (table .exit)) (now (trace .exit)) ⌝ }
+{
+    let fault = length_fault(text.len());
+    if fault.number != 0 {
+        let head = lines::no_head();
+        return Gathered {
+            fault,
+            head,
+            tasks: 0,
+            releases: 0,
+        };
+    }
+    let found = lines::gather(text, table, trace);
+    let bad_line = found.fault;
+    if bad_line.number != 0 {
+        return found;
+    }
+    let head = found.head;
+    let tasks = found.tasks;
+    let releases = found.releases;
+    let fault = checks::case_fault(
+        head.procs,
+        head.policy,
+        &table[0..tasks],
+        head.end,
+        &trace[0..releases],
+    );
+    Gathered { fault, ..found }
 }
 
 // Copies numbers to the front of a room; those after them stay.
@@ -34,6 +92,29 @@ fn put_numbers(room: &mut [u32], numbers: &[u32])
     while i < numbers.len() {
         room[i] = numbers[i];
         i += 1;
+    }
+}
+
+// Puts the numbers of a case into the lent rooms; its values are the answer.
+fn put_case(
+    head: Head,
+    table: &[u32],
+    trace: &[u32],
+    tasks: &mut [u32],
+    releases: &mut [u32],
+) -> Taken
+    requires { ⌜ length (now table) ≤ length (now tasks) ⌝ }
+    requires { ⌜ length (now trace) ≤ length (now releases) ⌝ }
+    ensures { λ r. ⌜ PutsCase (caseOf (head .procs) (head .policy) (now (table .entry)) (head .end) (now (trace .entry))) (now (tasks .entry)) (now (releases .entry)) r (now (tasks .exit)) (now (releases .exit)) ⌝ }
+{
+    put_numbers(tasks, table);
+    put_numbers(releases, trace);
+    Taken::Read {
+        procs: head.procs,
+        policy: head.policy,
+        end: head.end,
+        tasks: table.len() / TASK_WIDTH,
+        releases: trace.len() / RELEASE_WIDTH,
     }
 }
 
@@ -51,34 +132,25 @@ fn refused(f: Fault) -> Taken
 pub fn read(text: &[u8], tasks: &mut [u32], releases: &mut [u32]) -> Taken
     ensures { λ r. ⌜ ReadPromise (now (text .entry)) (now (tasks .entry)) (now (releases .entry)) r (now (tasks .exit)) (now (releases .exit)) ⌝ }
 {
-    let a = start_fault(text.len(), tasks.len(), releases.len());
-    let ka = a.number;
-    if ka != 0 {
-        return refused(a);
+    let no_room = rooms_fault(tasks.len(), releases.len());
+    if no_room.number != 0 {
+        return refused(no_room);
     }
-    let mut table: [u32; 99] = [0; 99];
-    let mut trace: [u32; 4002] = [0; 4002];
-    let g = lines::gather(text, &mut table, &mut trace);
-    let b = g.fault;
-    let kb = b.number;
-    if kb != 0 {
-        return refused(b);
+    let mut table: [u32; TABLE_ROOM] = [0; TABLE_ROOM];
+    let mut trace: [u32; TRACE_ROOM] = [0; TRACE_ROOM];
+    let found = read_case(text, &mut table, &mut trace);
+    let wrong = found.fault;
+    if wrong.number != 0 {
+        return refused(wrong);
     }
-    let h = g.head;
-    let t = g.tasks;
-    let r = g.releases;
-    let d = checks::case_fault(h.procs, h.policy, &table[0..t], h.end, &trace[0..r]);
-    let kd = d.number;
-    if kd != 0 {
-        return refused(d);
-    }
-    put_numbers(tasks, &table[0..t]);
-    put_numbers(releases, &trace[0..r]);
-    Taken::Read {
-        procs: h.procs,
-        policy: h.policy,
-        end: h.end,
-        tasks: t / 3,
-        releases: r / 2,
-    }
+    let head = found.head;
+    let task_numbers = found.tasks;
+    let release_numbers = found.releases;
+    put_case(
+        head,
+        &table[0..task_numbers],
+        &trace[0..release_numbers],
+        tasks,
+        releases,
+    )
 }

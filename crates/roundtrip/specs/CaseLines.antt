@@ -4,21 +4,20 @@ use mathlib.Core.Path.{_≡_, refl, sym, ap, ap₂, _∙_}
 use mathlib.Core.List.{List, [], _∷_, _++_}
 use Prim.Native.Nat.{ℕ, zero, suc, _+_, _^_, _≤_, _<_}
 use native.Mathlib.Omega.{arith}
-use lib.ListN.{length, length-append}
+use lib.ListN.{length}
 use Rattle.rules.specs.Words.{tab}
 use Rattle.rules.specs.declared.Line.{Line}
 use Rattle.rules.specs.declared.Line.the-variants.{Procs, Policy, End}
 use Rattle.rules.specs.Limits.{maxText}
 use Rattle.rules.specs.Case.{Case, caseOf, taskCount, releaseCount}
 use Rattle.rules.specs.Refusals.{noFault, Accepted}
-use Rattle.rules.specs.Reader.{linesFault, noCase, withLine, withLines}
+use Rattle.rules.specs.Reader.{caseOrder, linesFault, noCase, withLine, withLines}
 use Rattle.rules.specs.Writer.{procsText, policyText, taskText, endText, releaseText, caseText}
-use Rattle.lists.specs.Lists.{tab-long}
 use Rattle.legal.specs.Legal.{Legal, legal}
 use Rattle.texts.specs.Fields.{All}
 use Rattle.roundtrip.specs.LineTrip.{wordOf, fieldsIn, lineBytes, Below}
 use Rattle.roundtrip.specs.Lines.{textOf, textOf-append, textOf-tab}
-use Rattle.roundtrip.specs.Lengths.{textOf-long}
+use Rattle.roundtrip.specs.Lengths.{text-long}
 use Rattle.roundtrip.specs.Listed.{rowAt, releaseAt, allListed, Kind, rows-list, releases-list, listed-back, lines-back, listed-long, kinds-tab, lines-taken}
 use Rattle.roundtrip.specs.Orders.{Tail, Body, ordered-clear}
 
@@ -49,9 +48,9 @@ rows-kind ts = kinds-tab 3 3 rowAt rows-list ts 0 (taskCount ts)
 releases-kind : (rs : List ℕ) → All (Kind 5) (releaseLines rs)
 releases-kind rs = kinds-tab 5 2 releaseAt releases-list rs 0 (releaseCount rs)
 
-pub lines-hold : (c : Case) → Legal c → withLines noCase (caseLines c) ≡ c
+pub lines-hold : (p : ℕ) (c : Case) → Legal c → withLines (noCase p) (caseLines c) ≡ c
 unfolding withLines withLine caseLines
-lines-hold c w =
+lines-hold p c w =
     lines-taken (c .procs) (c .policy) (rowLines (c .table)) (c .end) (releaseLines (c .trace)) (rows-kind (c .table)) (releases-kind (c .trace))
     ∙ ap₂ (λ ts rs. caseOf (c .procs) (c .policy) ts (c .end) rs)
     (listed-back 3 3 rowAt rows-list (taskCount (c .table)) (c .table) (omega (arith, w .threes)))
@@ -120,17 +119,10 @@ lines-body c w = go (taskCount (c .table)) (w .tasks-some)
       whole = refl;
     }
 
-pub lines-clear : (c : Case) → Legal c → linesFault 0 1 (caseLines c) ≡ noFault
+pub lines-clear : (c : Case) → Legal c → linesFault caseOrder 0 1 (caseLines c) ≡ noFault
 unfolding caseLines
 lines-clear c w = ordered-clear (c .procs) (c .policy) _ (lines-body c w)
 
--- 1 and 1, at most 32, 1, and at most 2,000 lines
-lines-few : (c : Case) → Legal c → length (caseLines c) ≤ 2035
-unfolding caseLines
-lines-few c g =
-    let rows = tab-long (rowAt (c .table)) 0 (taskCount (c .table)) in
-    let releases = tab-long (releaseAt (c .trace)) 0 (releaseCount (c .trace)) in
-    omega (arith, length-append (rowLines (c .table)) (End (c .end) ∷ releaseLines (c .trace)), rows, releases, g .tasks-few, g .releases-few)
-
+-- its text fits
 pub text-fits : (c : Case) → Accepted c → length (caseText c) ≤ maxText
-text-fits c e = let g = legal c e in rw (case-text c) (omega (arith, textOf-long (caseLines c) (lines-below c g), lines-few c g))
+text-fits c e = omega (arith, text-long c (legal c e))

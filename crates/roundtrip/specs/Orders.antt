@@ -11,9 +11,10 @@ use borrow.Author.Tests.{eqb-true, eqb-false, ne-eqb, not-true}
 use Rattle.rules.specs.declared.Line.{Line}
 use Rattle.rules.specs.declared.Line.the-variants.{Procs, Policy, End}
 use Rattle.rules.specs.Refusals.{noFault, unless, orNext}
-use Rattle.rules.specs.Reader.{kindOf, mayFollow, mayStop, linesFault}
+use Rattle.rules.specs.Reader.{kindOf, mayFollow, mayStop, caseOrder, linesFault}
 use Rattle.legal.specs.Legal.{unless-clear, next-clear}
 use Rattle.texts.specs.Fields.{All}
+use Rattle.texts.specs.LinesOf.{end-release}
 use Rattle.roundtrip.specs.LineTrip.{Said}
 use Rattle.roundtrip.specs.Listed.{Kind, is-procs, is-policy, is-end}
 
@@ -30,14 +31,14 @@ one-of k i j e = go (eqb k i) refl e
 record Clear (before n : ℕ) (l : Line) (ls : List Line) : Type 0 where
   said : Said l
   follows : mayFollow before (kindOf l) ≡ true
-  rest : linesFault (kindOf l) (suc n) ls .number ≡ 0
+  rest : linesFault caseOrder (kindOf l) (suc n) ls .number ≡ 0
 
-clear : (before n : ℕ) (l : Line) (ls : List Line) → linesFault before n (l ∷ ls) .number ≡ 0 → Clear before n l ls
+clear : (before n : ℕ) (l : Line) (ls : List Line) → linesFault caseOrder before n (l ∷ ls) .number ≡ 0 → Clear before n l ls
 unfolding linesFault Said
 clear before n l ls h =
     let a = next-clear (unless (not (eqb (kindOf l) 0)) 2 n) _ h in
     let b = next-clear (unless (mayFollow before (kindOf l)) 3 n) _ (a .1) in
-    let d = next-clear (linesFault (kindOf l) (suc n) ls) _ (b .1) in
+    let d = next-clear (linesFault caseOrder (kindOf l) (suc n) ls) _ (b .1) in
     record {
       said = eqb-false (kindOf l) 0 (not-true _ (unless-clear _ 2 n (omega arith) (a .0)));
       follows = unless-clear _ 3 n (omega arith) (b .0);
@@ -45,23 +46,17 @@ clear before n l ls h =
     }
 
 fault-next : (before n k : ℕ) (l : Line) (ls : List Line)
-    → Kind (suc k) l → mayFollow before (suc k) ≡ true → linesFault (suc k) (suc n) ls ≡ noFault → linesFault before n (l ∷ ls) ≡ noFault
+    → Kind (suc k) l → mayFollow before (suc k) ≡ true → linesFault caseOrder (suc k) (suc n) ls ≡ noFault → linesFault caseOrder before n (l ∷ ls) ≡ noFault
 unfolding linesFault orNext
 fault-next before n k l ls e f g = rw (e, ne-eqb (suc k) 0 (λ z. omega arith), f, g)
 
-pub all-said : (before n : ℕ) (ls : List Line) → linesFault before n ls .number ≡ 0 → All Said ls
+pub all-said : (before n : ℕ) (ls : List Line) → linesFault caseOrder before n ls .number ≡ 0 → All Said ls
 unfolding All
 all-said before n [] h = tt
 all-said before n (l ∷ ls) h = let c = clear before n l ls h in (c .said, all-said (kindOf l) (suc n) ls (c .rest))
 
 -- ---- after the end: releases
--- they may follow the end as they follow one another
-end-release : (n : ℕ) (ls : List Line) → linesFault 4 n ls ≡ linesFault 5 n ls
-unfolding linesFault mayFollow mayStop
-end-release n [] = refl
-end-release n (l ∷ ls) = refl
-
-releases-only : (n : ℕ) (ls : List Line) → linesFault 5 n ls .number ≡ 0 → All (Kind 5) ls
+releases-only : (n : ℕ) (ls : List Line) → linesFault caseOrder 5 n ls .number ≡ 0 → All (Kind 5) ls
 unfolding All mayFollow
 releases-only n [] h = tt
 releases-only n (l ∷ ls) h =
@@ -69,7 +64,7 @@ releases-only n (l ∷ ls) h =
     let e : Kind 5 l = eqb-true (kindOf l) 5 (c .follows) in
     (e, releases-only (suc n) ls (rw e at (c .rest)))
 
-releases-clear : (n : ℕ) (ls : List Line) → All (Kind 5) ls → linesFault 5 n ls ≡ noFault
+releases-clear : (n : ℕ) (ls : List Line) → All (Kind 5) ls → linesFault caseOrder 5 n ls ≡ noFault
 unfolding All linesFault mayFollow mayStop
 releases-clear n [] a = refl
 releases-clear n (l ∷ ls) a = fault-next 5 n 4 l ls (a .0) refl (releases-clear (suc n) ls (a .1))
@@ -94,14 +89,14 @@ tail-more l ls e t = record {
   whole = ap (λ z. l ∷ z) (t .whole);
 }
 
-tail-of : (n : ℕ) (ls : List Line) → linesFault 3 n ls .number ≡ 0 → Tail ls
+tail-of : (n : ℕ) (ls : List Line) → linesFault caseOrder 3 n ls .number ≡ 0 → Tail ls
 unfolding linesFault mayFollow mayStop All
 tail-of n [] h = absurd (omega arith)
 tail-of n (l ∷ ls) h =
     let c = clear 3 n l ls h in
     go (tail-of (suc n) ls) (c .rest) (one-of (kindOf l) 3 4 (simp or-false at (c .follows)))
   where
-    go : (linesFault 3 (suc n) ls .number ≡ 0 → Tail ls) → linesFault (kindOf l) (suc n) ls .number ≡ 0 → Kind 3 l ⊎ Kind 4 l → Tail (l ∷ ls)
+    go : (linesFault caseOrder 3 (suc n) ls .number ≡ 0 → Tail ls) → linesFault caseOrder (kindOf l) (suc n) ls .number ≡ 0 → Kind 3 l ⊎ Kind 4 l → Tail (l ∷ ls)
     go more rest (inl e) = tail-more l ls e (more (rw e at rest))
     go more rest (inr e) =
         record {
@@ -113,15 +108,15 @@ tail-of n (l ∷ ls) h =
           whole = ap (λ z. z ∷ ls) (is-end l e .1);
         }
 
-rows-clear : (rows ls : List Line) → All (Kind 3) rows → ((n : ℕ) → linesFault 3 n ls ≡ noFault) → (n : ℕ) → linesFault 3 n (rows ++ ls) ≡ noFault
+rows-clear : (rows ls : List Line) → All (Kind 3) rows → ((n : ℕ) → linesFault caseOrder 3 n ls ≡ noFault) → (n : ℕ) → linesFault caseOrder 3 n (rows ++ ls) ≡ noFault
 unfolding All mayFollow
 rows-clear [] ls a h n = h n
 rows-clear (l ∷ rows) ls a h n = fault-next 3 n 2 l (rows ++ ls) (a .0) refl (rows-clear rows ls (a .1) h (suc n))
 
-tail-clear : (ls : List Line) → Tail ls → (n : ℕ) → linesFault 3 n ls ≡ noFault
+tail-clear : (ls : List Line) → Tail ls → (n : ℕ) → linesFault caseOrder 3 n ls ≡ noFault
 unfolding mayFollow
 tail-clear ls t n =
-    let releases : (n : ℕ) → linesFault 4 n (t .releases) ≡ noFault = λ n. end-release n (t .releases) ∙ releases-clear n (t .releases) (t .are-releases) in
+    let releases : (n : ℕ) → linesFault caseOrder 4 n (t .releases) ≡ noFault = λ n. end-release n (t .releases) ∙ releases-clear n (t .releases) (t .are-releases) in
     rw (t .whole)
     (rows-clear (t .rows) (End (t .end) ∷ t .releases) (t .are-rows) (λ n. fault-next 3 n 3 (End (t .end)) (t .releases) refl refl (releases (suc n))) n)
 
@@ -136,15 +131,15 @@ pub record Body (ls : List Line) : Type 0 where
 pub body-tail : (ls : List Line) → Body ls → Tail ls
 body-tail ls b = rw (b .whole) (tail-more (b .task) (b .others) (b .is-task) (b .tail))
 
-body-of : (n : ℕ) (l : Line) (ls : List Line) → Kind 3 l → linesFault (kindOf l) (suc n) ls .number ≡ 0 → Body (l ∷ ls)
+body-of : (n : ℕ) (l : Line) (ls : List Line) → Kind 3 l → linesFault caseOrder (kindOf l) (suc n) ls .number ≡ 0 → Body (l ∷ ls)
 body-of n l ls e h = record { task = l; others = ls; is-task = e; tail = tail-of (suc n) ls (rw e at h); whole = refl }
 
-body-after-policy : (n : ℕ) (ls : List Line) → linesFault 2 n ls .number ≡ 0 → Body ls
+body-after-policy : (n : ℕ) (ls : List Line) → linesFault caseOrder 2 n ls .number ≡ 0 → Body ls
 unfolding linesFault mayFollow mayStop
 body-after-policy n [] h = absurd (omega arith)
 body-after-policy n (l ∷ ls) h = let c = clear 2 n l ls h in body-of n l ls (eqb-true (kindOf l) 3 (simp or-false at (c .follows))) (c .rest)
 
-body-clear : (ls : List Line) → Body ls → (n : ℕ) → linesFault 2 n ls ≡ noFault
+body-clear : (ls : List Line) → Body ls → (n : ℕ) → linesFault caseOrder 2 n ls ≡ noFault
 unfolding mayFollow
 body-clear ls b n = rw (b .whole) (fault-next 2 n 2 (b .task) (b .others) (b .is-task) refl (tail-clear (b .others) (b .tail) (suc n)))
 
@@ -155,18 +150,18 @@ pub record Ordered (ls : List Line) : Type 0 where
   pub body : Body after
   pub whole : ((p : ℕ) × (ls ≡ Procs procs ∷ Policy p ∷ after)) ⊎ (ls ≡ Procs procs ∷ after)
 
-ordered-after-procs : (n m : ℕ) (ls : List Line) → linesFault 1 n ls .number ≡ 0 → Ordered (Procs m ∷ ls)
+ordered-after-procs : (n m : ℕ) (ls : List Line) → linesFault caseOrder 1 n ls .number ≡ 0 → Ordered (Procs m ∷ ls)
 unfolding linesFault mayFollow mayStop
 ordered-after-procs n m [] h = absurd (omega arith)
 ordered-after-procs n m (l ∷ ls) h = let c = clear 1 n l ls h in go (c .rest) (one-of (kindOf l) 2 3 (simp or-false at (c .follows)))
   where
-    go : linesFault (kindOf l) (suc n) ls .number ≡ 0 → Kind 2 l ⊎ Kind 3 l → Ordered (Procs m ∷ l ∷ ls)
+    go : linesFault caseOrder (kindOf l) (suc n) ls .number ≡ 0 → Kind 2 l ⊎ Kind 3 l → Ordered (Procs m ∷ l ∷ ls)
     go rest (inl e) =
         let (p, q) = is-policy l e in
         record { procs = m; after = ls; body = body-after-policy (suc n) ls (rw e at rest); whole = inl (p, ap (λ z. Procs m ∷ z ∷ ls) q) }
     go rest (inr e) = record { procs = m; after = l ∷ ls; body = body-of n l ls e rest; whole = inr refl }
 
-pub ordered-of : (ls : List Line) → linesFault 0 1 ls .number ≡ 0 → Ordered ls
+pub ordered-of : (ls : List Line) → linesFault caseOrder 0 1 ls .number ≡ 0 → Ordered ls
 unfolding linesFault mayFollow mayStop
 ordered-of [] h = absurd (omega arith)
 ordered-of (l ∷ ls) h =
@@ -174,6 +169,6 @@ ordered-of (l ∷ ls) h =
     let e : Kind 1 l = eqb-true (kindOf l) 1 (simp or-false at (c .follows)) in
     subst (λ z. Ordered (z ∷ ls)) (sym (is-procs l e .1)) (ordered-after-procs 2 (is-procs l e .0) ls (rw e at (c .rest)))
 
-pub ordered-clear : (m p : ℕ) (ls : List Line) → Body ls → linesFault 0 1 (Procs m ∷ Policy p ∷ ls) ≡ noFault
+pub ordered-clear : (m p : ℕ) (ls : List Line) → Body ls → linesFault caseOrder 0 1 (Procs m ∷ Policy p ∷ ls) ≡ noFault
 unfolding mayFollow
 ordered-clear m p ls b = fault-next 0 1 0 (Procs m) (Policy p ∷ ls) refl refl (fault-next 1 2 1 (Policy p) ls refl refl (body-clear ls b 3))

@@ -13,7 +13,7 @@ use Rattle.rules.specs.Case.{Case}
 use Rattle.rules.specs.Refusals.{noFault, policyFault}
 use Rattle.rules.specs.Text.{newlineByte, has, lineOf, afterLine, fieldOf, afterField, numberIn}
 use Rattle.rules.specs.Policies.{edf, maxPolicy}
-use Rattle.rules.specs.Reader.{withNumber, oneNumber, twoNumbers, threeNumbers, policyIn, wordKind, fieldsSay, lineSays, linesIn, linesOf, noCase, withLine, withLines, caseIn}
+use Rattle.rules.specs.Reader.{withNumber, oneNumber, twoNumbers, threeNumbers, policyIn, wordKind, fieldsSay, lineSays, linesIn, linesOf, policyWhenAbsent, noCase, withLine, withLines, caseWithDefault, caseIn}
 use Rattle.texts.specs.PolicyNames.{name-read}
 use Rattle.rules.specs.declared.Num.{Num}
 use Rattle.rules.specs.declared.Num.the-variants as Num·
@@ -88,8 +88,8 @@ lines-known (suc k) (b ∷ s) c h =
 
 -- the policy of a text is one of the policies
 pub policy-known : (s : List ℕ) → caseIn s .policy ≤ maxPolicy
-unfolding caseIn linesOf
-policy-known s = lines-known (length s) s noCase (omega arith)
+unfolding caseWithDefault caseIn linesOf
+policy-known s = lines-known (length s) s (noCase policyWhenAbsent) (omega arith)
 
 -- so the test that gives 14 passes
 pub never-14 : (s : List ℕ) → policyFault (caseIn s .policy) ≡ noFault

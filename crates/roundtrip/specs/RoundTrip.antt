@@ -16,7 +16,7 @@ use Rattle.rules.specs.Limits.{maxText}
 use Rattle.rules.specs.Case.{Case, caseOf}
 use Rattle.rules.specs.Refusals.{noFault, orNext, caseFault, Accepted}
 use Rattle.rules.specs.Text.{newlineByte, lineOf, afterLine, fieldOf}
-use Rattle.rules.specs.Reader.{wordKind, linesOf, kindOf, linesFault, policyWhenAbsent, noCase, withLine, withLines, caseIn, lengthFault, textFault}
+use Rattle.rules.specs.Reader.{wordKind, linesOf, kindOf, caseOrder, linesFault, policyWhenAbsent, noCase, withLine, withLines, caseWithDefault, caseIn, lengthFault, textFault}
 use Rattle.rules.specs.Writer.{policyText, caseText}
 use Rattle.legal.specs.Legal.{next-clear, legal}
 use Rattle.roundtrip.specs.LineTrip.{wordOf, fieldsIn, lineBytes, body-kind}
@@ -31,8 +31,8 @@ written-lines c e = ap linesOf (case-text c) ∙ lines-written (10 ^ 6) (caseLin
 
 -- the same case
 pub case-written : (c : Case) → Accepted c → caseIn (caseText c) ≡ c
-unfolding caseIn
-case-written c e = ap (withLines noCase) (written-lines c e) ∙ lines-hold c (legal c e)
+unfolding caseWithDefault caseIn
+case-written c e = ap (withLines (noCase policyWhenAbsent)) (written-lines c e) ∙ lines-hold policyWhenAbsent c (legal c e)
 
 -- the reader finds no fault in it
 pub no-fault-written : (c : Case) → Accepted c → textFault (caseText c) ≡ noFault
@@ -63,30 +63,30 @@ unfolding withPolicy
 policy-there k p ls = rw (given-second k (Policy p) ls)
 
 -- of lines in order, the text of the case that they hold
-text-ordered : (ls : List Line) → Ordered ls → caseText (withLines noCase ls) ≡ withPolicy (textOf ls)
+text-ordered : (ls : List Line) → Ordered ls → caseText (withLines (noCase policyWhenAbsent) ls) ≡ withPolicy (textOf ls)
 unfolding withLines withLine
 text-ordered ls o = go (o .whole)
   where
     held : (p : ℕ) → caseText (withLines (caseOf (o .procs) p [] 0 []) (o .after)) ≡ textOf (Procs (o .procs) ∷ Policy p ∷ o .after)
     held p = case-text _ ∙ ap textOf (lines-held (o .procs) p (o .after) (body-tail (o .after) (o .body)))
 
-    go : ((p : ℕ) × (ls ≡ Procs (o .procs) ∷ Policy p ∷ o .after)) ⊎ (ls ≡ Procs (o .procs) ∷ o .after) → caseText (withLines noCase ls) ≡ withPolicy (textOf ls)
+    go : ((p : ℕ) × (ls ≡ Procs (o .procs) ∷ Policy p ∷ o .after)) ⊎ (ls ≡ Procs (o .procs) ∷ o .after) → caseText (withLines (noCase policyWhenAbsent) ls) ≡ withPolicy (textOf ls)
     go (inl (p, e)) = rw e (held p ∙ sym (policy-there (Procs (o .procs)) p (o .after)))
     go (inr e) =
         rw e (held policyWhenAbsent ∙ rw (o .body .whole) (sym (policy-put-in (Procs (o .procs)) (o .body .task) (o .body .others) (o .body .is-task))))
 
 -- a text in which the reader finds no fault: no line is at fault, and its case is accepted
-lines-no-fault : (s : List ℕ) → textFault s .number ≡ 0 → linesFault 0 1 (linesOf s) .number ≡ 0
+lines-no-fault : (s : List ℕ) → textFault s .number ≡ 0 → linesFault caseOrder 0 1 (linesOf s) .number ≡ 0
 unfolding textFault
-lines-no-fault s h = next-clear (linesFault 0 1 (linesOf s)) _ (next-clear (lengthFault s) _ h .1) .0
+lines-no-fault s h = next-clear (linesFault caseOrder 0 1 (linesOf s)) _ (next-clear (lengthFault s) _ h .1) .0
 
 pub case-accepted : (s : List ℕ) → textFault s .number ≡ 0 → Accepted (caseIn s)
 unfolding textFault Accepted
-case-accepted s h = next-clear (caseFault (caseIn s)) _ (next-clear (linesFault 0 1 (linesOf s)) _ (next-clear (lengthFault s) _ h .1) .1) .0
+case-accepted s h = next-clear (caseFault (caseIn s)) _ (next-clear (linesFault caseOrder 0 1 (linesOf s)) _ (next-clear (lengthFault s) _ h .1) .1) .0
 
 -- the same text, but for the policy line where it was absent
 pub text-read : (s : List ℕ) → textFault s .number ≡ 0 → caseText (caseIn s) ≡ withPolicy s
-unfolding caseIn
+unfolding caseWithDefault caseIn
 text-read s h =
     let e = lines-no-fault s h in
     text-ordered (linesOf s) (ordered-of (linesOf s) e) ∙ ap withPolicy (lines-read s (all-said 0 1 (linesOf s) e))

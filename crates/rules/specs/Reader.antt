@@ -92,20 +92,30 @@ mayFollow before k =
 unfoldable pub mayStop : ℕ → Bool
 mayStop before = eqb before 4 || eqb before 5
 
+-- an order of lines: which kind may follow which, and after which a text may stop
+pub record Order : Type 0 where
+  pub follows : ℕ → ℕ → Bool
+  pub stops : ℕ → Bool
+
+-- the order of the lines of a case text
+abbrev pub caseOrder : Order
+caseOrder = record { follows = mayFollow; stops = mayStop }
+
 -- the smallest line at fault, line n being the next: 2, a line is badly formed; 3, a line stands out of order or is missing, at the
 -- place where the next line stands or would stand
-unfoldable pub linesFault : ℕ → ℕ → List Line → Fault
-linesFault before n [] = unless (mayStop before) 3 n
-linesFault before n (l ∷ ls) =
-    first (unless (not (eqb (kindOf l) 0)) 2 n ∷ unless (mayFollow before (kindOf l)) 3 n ∷ linesFault (kindOf l) (suc n) ls ∷ [])
+unfoldable pub linesFault : Order → ℕ → ℕ → List Line → Fault
+linesFault o before n [] = unless (o .stops before) 3 n
+linesFault o before n (l ∷ ls) =
+    first (unless (not (eqb (kindOf l) 0)) 2 n ∷ unless (o .follows before (kindOf l)) 3 n ∷ linesFault o (kindOf l) (suc n) ls ∷ [])
 
 -- ---- the case of a text
 -- without a policy line the policy is EDF
 abbrev pub policyWhenAbsent : ℕ
 policyWhenAbsent = edf
 
-abbrev pub noCase : Case
-noCase = caseOf 0 policyWhenAbsent [] 0 []
+-- the case before the first line, p being its policy until a line names one
+abbrev pub noCase : ℕ → Case
+noCase p = caseOf 0 p [] 0 []
 
 -- a case with what one more line says
 unfoldable pub withLine : Case → Line → Case
@@ -120,8 +130,12 @@ unfoldable pub withLines : Case → List Line → Case
 withLines c [] = c
 withLines c (l ∷ ls) = withLines (withLine c l) ls
 
+-- the case of a text, p being its policy where no line names one
+unfoldable pub caseWithDefault : ℕ → List ℕ → Case
+caseWithDefault p s = withLines (noCase p) (linesOf s)
+
 unfoldable pub caseIn : List ℕ → Case
-caseIn s = withLines noCase (linesOf s)
+caseIn s = caseWithDefault policyWhenAbsent s
 
 -- ---- the reader's answer
 -- 1: text over 60,000 bytes
@@ -130,7 +144,7 @@ lengthFault s = unless (leb (length s) maxText) 1 0
 
 -- what is at fault in a text, its room apart: 1; then the smallest line at fault; then the order on numbers
 unfoldable pub textFault : List ℕ → Fault
-textFault s = first (lengthFault s ∷ linesFault 0 1 (linesOf s) ∷ caseFault (caseIn s) ∷ [])
+textFault s = first (lengthFault s ∷ linesFault caseOrder 0 1 (linesOf s) ∷ caseFault (caseIn s) ∷ [])
 
 -- the reader first tests its room, for 96 task numbers and 4,000 release numbers
 unfoldable pub readFault : List ℕ → ℕ → ℕ → Fault

@@ -90,6 +90,17 @@ pub enum Num {
     Bad,
 }
 
+// The kinds of line of a case text, in their order: one numbering for the words that are read and those that are written.
+pub const PROCS: u32 = 1;
+
+pub const POLICY: u32 = 2;
+
+pub const TASK: u32 = 3;
+
+pub const END: u32 = 4;
+
+pub const RELEASE: u32 = 5;
+
 // What a line of a case text says.
 pub enum Line {
     Bad,

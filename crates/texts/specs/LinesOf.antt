@@ -10,7 +10,7 @@ use Rattle.rules.specs.Words.{pick}
 use Rattle.rules.specs.declared.Line.{Line}
 use Rattle.rules.specs.declared.Line.the-variants.{Bad}
 use Rattle.rules.specs.Text.{newlineByte, has, lineOf, afterLine}
-use Rattle.rules.specs.Reader.{lineSays, linesIn, linesOf}
+use Rattle.rules.specs.Reader.{lineSays, linesIn, linesOf, mayFollow, mayStop, caseOrder, linesFault}
 use Rattle.texts.specs.Fields.{upTo-seam, past-seam, past-none, has-seam, cut-at, past-less}
 
 -- ---- a line and what is past it
@@ -65,3 +65,9 @@ linesOf-cons l s h =
 pub linesOf-unended : (s : List ℕ) → 1 ≤ length s → has newlineByte s ≡ false → linesOf s ≡ Bad ∷ []
 unfolding afterLine
 linesOf-unended s l h = linesOf-some s l ∙ rw (h, past-none newlineByte s h, linesOf-nil)
+
+-- ---- the order of lines: releases may follow the end as they follow one another, and a text may stop after either
+pub end-release : (n : ℕ) (ls : List Line) → linesFault caseOrder 4 n ls ≡ linesFault caseOrder 5 n ls
+unfolding linesFault mayFollow mayStop
+end-release n [] = refl
+end-release n (l ∷ ls) = refl

@@ -77,7 +77,7 @@ module _ (word width : ℕ) (vs : List ℕ) where
 part-cons : (xs : List ℕ) (n k : ℕ) → k < length xs → take (suc n) (drop k xs) ≡ getD xs k 0 ∷ take n (drop (suc k) xs)
 part-cons xs n k h = rw (drop-cons xs k 0 h)
 
-pub task-row : (ts : List ℕ) (i : ℕ) → i < taskCount ts → taskText ts i ≡ rowText 2 3 ts i
+pub task-row : (ts : List ℕ) (i : ℕ) → i < taskCount ts → taskText ts i ≡ rowText 3 3 ts i
 unfolding taskText rowText wordOf
 task-row ts i h =
     let a : i * 3 < length ts = omega arith in
@@ -87,7 +87,7 @@ task-row ts i h =
     let two : i * 3 + 2 ≡ suc (suc (i * 3)) = omega arith in
     rw (part-cons ts 2 (i * 3) a, part-cons ts 1 (suc (i * 3)) b, part-cons ts 0 (suc (suc (i * 3))) c, one, two) refl
 
-pub release-row : (rs : List ℕ) (j : ℕ) → j < releaseCount rs → releaseText rs j ≡ rowText 4 2 rs j
+pub release-row : (rs : List ℕ) (j : ℕ) → j < releaseCount rs → releaseText rs j ≡ rowText 5 2 rs j
 unfolding releaseText rowText wordOf
 release-row rs j h =
     let a : j * 2 < length rs = omega arith in
@@ -95,10 +95,10 @@ release-row rs j h =
     let one : j * 2 + 1 ≡ suc (j * 2) = omega arith in
     rw (part-cons rs 1 (j * 2) a, part-cons rs 0 (suc (j * 2)) b, one) refl
 
-pub task-rows : (ts : List ℕ) → joinedText (tab (taskText ts) 0 (taskCount ts)) ≡ rowsText 2 3 ts (taskCount ts)
+pub task-rows : (ts : List ℕ) → joinedText (tab (taskText ts) 0 (taskCount ts)) ≡ rowsText 3 3 ts (taskCount ts)
 unfolding rowsText
-task-rows ts = ap joinedText (tab-cong (taskText ts) (rowText 2 3 ts) 0 (taskCount ts) (λ i p q. task-row ts i (omega arith)))
+task-rows ts = ap joinedText (tab-cong (taskText ts) (rowText 3 3 ts) 0 (taskCount ts) (λ i p q. task-row ts i (omega arith)))
 
-pub release-rows : (rs : List ℕ) → joinedText (tab (releaseText rs) 0 (releaseCount rs)) ≡ rowsText 4 2 rs (releaseCount rs)
+pub release-rows : (rs : List ℕ) → joinedText (tab (releaseText rs) 0 (releaseCount rs)) ≡ rowsText 5 2 rs (releaseCount rs)
 unfolding rowsText
-release-rows rs = ap joinedText (tab-cong (releaseText rs) (rowText 4 2 rs) 0 (releaseCount rs) (λ j p q. release-row rs j (omega arith)))
+release-rows rs = ap joinedText (tab-cong (releaseText rs) (rowText 5 2 rs) 0 (releaseCount rs) (λ j p q. release-row rs j (omega arith)))

@@ -14,7 +14,7 @@ use Rattle.writer.specs.Rows.{rowsText, headText, tailText, WholeRows}
 use Rattle.writer.proofs.Rows.{rows-length, task-rows, release-rows}
 
 pub case-parts : (m p : ℕ) (ts : List ℕ) (e : ℕ) (rs : List ℕ)
-    → headText m p ++ (rowsText 2 3 ts (taskCount ts) ++ tailText e rs) ≡ caseText (caseOf m p ts e rs)
+    → headText m p ++ (rowsText 3 3 ts (taskCount ts) ++ tailText e rs) ≡ caseText (caseOf m p ts e rs)
 unfolding caseText headText tailText
 case-parts m p ts e rs = rw (task-rows ts, release-rows rs) (append-assoc (procsText m) (policyText p) _)
 
@@ -40,11 +40,11 @@ case-length m p ts e rs w =
     sym (ap length (case-parts m p ts e rs)) ∙
     omega (
       arith,
-      length-append (headText m p) (rowsText 2 3 ts (taskCount ts) ++ tailText e rs),
-      length-append (rowsText 2 3 ts (taskCount ts)) (tailText e rs),
-      length-append (endText e) (rowsText 4 2 rs (releaseCount rs)),
+      length-append (headText m p) (rowsText 3 3 ts (taskCount ts) ++ tailText e rs),
+      length-append (rowsText 3 3 ts (taskCount ts)) (tailText e rs),
+      length-append (endText e) (rowsText 5 2 rs (releaseCount rs)),
       length-append (digitsOf e) (10 ∷ []),
       head-length m p,
-      all-rows 2 3 4 (taskCount ts) ts refl (w .tasks),
-      all-rows 4 2 7 (releaseCount rs) rs refl (w .releases),
+      all-rows 3 3 4 (taskCount ts) ts refl (w .tasks),
+      all-rows 5 2 7 (releaseCount rs) rs refl (w .releases),
     )

@@ -24,7 +24,7 @@ headText m p = procsText m ++ policyText p
 
 -- the end line and the lines of the releases
 unfoldable pub tailText : ℕ → List ℕ → List ℕ
-tailText e rs = endText e ++ rowsText 4 2 rs (releaseCount rs)
+tailText e rs = endText e ++ rowsText 5 2 rs (releaseCount rs)
 
 -- a table and a trace of whole rows, and of no more than a case may have
 pub record WholeRows (ts rs : List ℕ) : Type 0 where

@@ -11,16 +11,16 @@ use checks::case_fault;
 use checks::room_fault;
 use policies::policy_width;
 use policies::put_policy;
-use puts::END;
-use puts::POLICY;
-use puts::PROCS;
-use puts::RELEASE;
 use puts::TAB;
-use puts::TASK;
 use puts::numbers_width;
 use puts::put_line;
 use puts::put_word;
 use puts::width;
+use rules::END;
+use rules::POLICY;
+use rules::PROCS;
+use rules::RELEASE;
+use rules::TASK;
 use rules::Written;
 
 // Writes the policy line at the start.

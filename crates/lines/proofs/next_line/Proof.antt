@@ -1,36 +1,53 @@
--- `lines::next_line` meets its contract.
-use mathlib.Core.Path.{_∙_}
+-- `lines::next_line` meets its contract: the line ends at its newline, and the next starts behind that.
+use mathlib.Core.Path.{refl, ap, _∙_}
 use native.Mathlib.Omega.{arith}
+use Rattle.rules.specs.Reader.{lineSays}
 use Rattle.lines.proofs.Unread.{ended-says, ended-after, last-long, last-says, last-after}
 use borrow.Author.Needs.{needs}
 use Rattle.lines.proofs.next_line.Statement.{statement}
 use Rattle.lines.proofs.next_line.Tie as tie
 
+line-end-requires : tie.Need-line-end-requires
+line-end-requires c κs = search needs
+
 line-requires : tie.Need-line-requires
 line-requires c κs = search needs
-
-add-e : tie.Need-add-e
-add-e c = search needs
 
 line-says-requires : tie.Need-line-says-requires
 line-says-requires c κs = search needs
 
-add-t9 : tie.Need-add-t9
-add-t9 c = search needs
+add-t10 : tie.Need-add-t10
+add-t10 c = search needs
 
 returns : tie.Need-returns
 returns c =
-    let a = c .before .before .before .before .args in
-    let e = c .before .before .line .ensures in
-    (c .line-says .ensures ∙ ended-says (a .text .now) (a .at) _ e (c .before .if1 .taken), ended-after (a .text .now) (a .at) _ e (c .before .if1 .taken), omega arith, omega arith)
+    let found = c .before .before .before in
+    let a = found .before .before .args in
+    let ends = found .line-end .ensures in
+    let inside = c .before .before .if1 .taken in
+    record {
+      said = c .line-says .ensures .line ∙ ap lineSays (c .before .line .ensures) ∙ ended-says (a .text .now) (a .at) _ ends inside;
+      opens = c .line-says .ensures .opens;
+      unread = ended-after (a .text .now) (a .at) _ ends inside;
+      on = omega (arith, ends);
+      within = omega (arith, inside);
+    }
 
 returns-2 : tie.Need-returns-2
 returns-2 c =
-    let a = c .before .before .before .args in
-    let e = c .before .line .ensures in
-    let z = last-long (a .text .now) (a .at) _ e (omega arith) (c .if1 .left) in
-    (last-says (a .text .now) (a .at) _ e (c .if1 .left), last-after (a .text .now) (a .at) _ e (c .if1 .left), omega arith, omega arith)
+    let found = c .before in
+    let a = found .before .before .args in
+    let ends = found .line-end .ensures in
+    let long = last-long (a .text .now) (a .at) _ ends (omega arith) (c .if1 .left) in
+    record {
+      said = last-says (a .text .now) (a .at) _ ends (c .if1 .left);
+      opens = λ h. absurd (h refl);
+      unread = last-after (a .text .now) (a .at) _ ends (c .if1 .left);
+      on = omega (arith, long);
+      within = omega (arith, long);
+    }
 
 pub next-line-spec : {M : Type 1} → statement M
 next-line-spec =
-    tie.close (tie.spec line-requires add-e line-says-requires add-t9 returns returns-2)
+    tie.close
+    (tie.spec line-end-requires line-requires line-says-requires add-t10 returns returns-2)

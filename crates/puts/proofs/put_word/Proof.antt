@@ -5,7 +5,8 @@ use native.Mathlib.Omega.{arith}
 use lib.ListN.{length}
 use borrow.Author.Needs.{needs}
 use borrow.Author.Tests.{ne-eqb}
-use Rattle.puts.specs.Fields.{wordOf, runningWord}
+use Rattle.rules.specs.Report.{runWord}
+use Rattle.puts.specs.Fields.{wordOf}
 use Rattle.puts.proofs.put_word.Statement.{statement}
 use Rattle.puts.proofs.put_word.Tie as tie
 
@@ -18,95 +19,95 @@ slice-aggregate-put-bytes c = search needs
 
 put-bytes-requires : tie.Need-put-bytes-requires
 unfolding wordOf
-put-bytes-requires c κs = room _ 0 (c .before .before .match .keys1) (c .before .before .before .before .pre)
+put-bytes-requires c κs = room _ 1 (c .before .before .match .keys1) (c .before .before .before .before .pre)
 
 slice-aggregate-put-bytes-2 : tie.Need-slice-aggregate-put-bytes-2
 slice-aggregate-put-bytes-2 c = search needs
 
 put-bytes-requires-2 : tie.Need-put-bytes-requires-2
 unfolding wordOf
-put-bytes-requires-2 c κs = room _ 1 (c .before .before .match .keys2) (c .before .before .before .before .pre)
+put-bytes-requires-2 c κs = room _ 2 (c .before .before .match .keys2) (c .before .before .before .before .pre)
 
 slice-aggregate-put-bytes-3 : tie.Need-slice-aggregate-put-bytes-3
 slice-aggregate-put-bytes-3 c = search needs
 
 put-bytes-requires-3 : tie.Need-put-bytes-requires-3
 unfolding wordOf
-put-bytes-requires-3 c κs = room _ 2 (c .before .before .match .keys3) (c .before .before .before .before .pre)
+put-bytes-requires-3 c κs = room _ 3 (c .before .before .match .keys3) (c .before .before .before .before .pre)
 
 slice-aggregate-put-bytes-4 : tie.Need-slice-aggregate-put-bytes-4
 slice-aggregate-put-bytes-4 c = search needs
 
 put-bytes-requires-4 : tie.Need-put-bytes-requires-4
 unfolding wordOf
-put-bytes-requires-4 c κs = room _ 3 (c .before .before .match .keys4) (c .before .before .before .before .pre)
+put-bytes-requires-4 c κs = room _ 4 (c .before .before .match .keys4) (c .before .before .before .before .pre)
 
 slice-aggregate-put-bytes-5 : tie.Need-slice-aggregate-put-bytes-5
 slice-aggregate-put-bytes-5 c = search needs
 
 put-bytes-requires-5 : tie.Need-put-bytes-requires-5
 unfolding wordOf
-put-bytes-requires-5 c κs = room _ 4 (c .before .before .match .keys5) (c .before .before .before .before .pre)
+put-bytes-requires-5 c κs = room _ 5 (c .before .before .match .keys5) (c .before .before .before .before .pre)
 
 slice-aggregate-put-bytes-6 : tie.Need-slice-aggregate-put-bytes-6
 slice-aggregate-put-bytes-6 c = search needs
 
 put-bytes-requires-6 : tie.Need-put-bytes-requires-6
 unfolding wordOf
-put-bytes-requires-6 c κs = room _ 5 (c .before .before .match .keys6) (c .before .before .before .before .pre)
+put-bytes-requires-6 c κs = room _ 6 (c .before .before .match .keys6) (c .before .before .before .before .pre)
 
 slice-aggregate-put-bytes-7 : tie.Need-slice-aggregate-put-bytes-7
 slice-aggregate-put-bytes-7 c = search needs
 
 put-bytes-requires-7 : tie.Need-put-bytes-requires-7
 unfolding wordOf
-put-bytes-requires-7 c κs = room _ 6 (c .before .before .match .keys7) (c .before .before .before .before .pre)
+put-bytes-requires-7 c κs = room _ 7 (c .before .before .match .keys7) (c .before .before .before .before .pre)
 
 slice-aggregate-put-bytes-8 : tie.Need-slice-aggregate-put-bytes-8
 slice-aggregate-put-bytes-8 c = search needs
 
 put-bytes-requires-8 : tie.Need-put-bytes-requires-8
 unfolding wordOf
-put-bytes-requires-8 c κs = room _ 7 (c .before .before .match .keys8) (c .before .before .before .before .pre)
+put-bytes-requires-8 c κs = room _ 8 (c .before .before .match .keys8) (c .before .before .before .before .pre)
 
 slice-aggregate-put-bytes-9 : tie.Need-slice-aggregate-put-bytes-9
 slice-aggregate-put-bytes-9 c = search needs
 
 put-bytes-requires-9 : tie.Need-put-bytes-requires-9
 unfolding wordOf
-put-bytes-requires-9 c κs = room _ 8 (c .before .before .match .keys9) (c .before .before .before .before .pre)
+put-bytes-requires-9 c κs = room _ 9 (c .before .before .match .keys9) (c .before .before .before .before .pre)
 
 slice-aggregate-put-bytes-10 : tie.Need-slice-aggregate-put-bytes-10
 slice-aggregate-put-bytes-10 c = search needs
 
 put-bytes-requires-10 : tie.Need-put-bytes-requires-10
 unfolding wordOf
-put-bytes-requires-10 c κs = room _ 9 (c .before .before .match .keys10) (c .before .before .before .before .pre)
+put-bytes-requires-10 c κs = room _ 10 (c .before .before .match .keys10) (c .before .before .before .before .pre)
 
 -- the last arm: the number is none of the others
-running : (c : tie.After-put-bytes-arg22) → wordOf (c .before .before .before .before .args .word) ≡ runningWord
+run : (c : tie.After-put-bytes-arg22) → wordOf (c .before .before .before .before .args .word) ≡ runWord
 unfolding wordOf
-running c =
+run c =
     let w = c .before .before .before .before .args .word in
     let r = c .before .before .match .rest in
     rw (
-      ne-eqb w 0 (r .0 .0 .0 .0 .0 .0 .0 .0 .0 .1),
-      ne-eqb w 1 (r .0 .0 .0 .0 .0 .0 .0 .0 .1),
-      ne-eqb w 2 (r .0 .0 .0 .0 .0 .0 .0 .1),
-      ne-eqb w 3 (r .0 .0 .0 .0 .0 .0 .1),
-      ne-eqb w 4 (r .0 .0 .0 .0 .0 .1),
-      ne-eqb w 5 (r .0 .0 .0 .0 .1),
-      ne-eqb w 6 (r .0 .0 .0 .1),
-      ne-eqb w 7 (r .0 .0 .1),
-      ne-eqb w 8 (r .0 .1),
-      ne-eqb w 9 (r .1),
+      ne-eqb w 1 (r .0 .0 .0 .0 .0 .0 .0 .0 .0 .1),
+      ne-eqb w 2 (r .0 .0 .0 .0 .0 .0 .0 .0 .1),
+      ne-eqb w 3 (r .0 .0 .0 .0 .0 .0 .0 .1),
+      ne-eqb w 4 (r .0 .0 .0 .0 .0 .0 .1),
+      ne-eqb w 5 (r .0 .0 .0 .0 .0 .1),
+      ne-eqb w 6 (r .0 .0 .0 .0 .1),
+      ne-eqb w 7 (r .0 .0 .0 .1),
+      ne-eqb w 8 (r .0 .0 .1),
+      ne-eqb w 9 (r .0 .1),
+      ne-eqb w 10 (r .1),
     )
 
 slice-aggregate-put-bytes-11 : tie.Need-slice-aggregate-put-bytes-11
 slice-aggregate-put-bytes-11 c = search needs
 
 put-bytes-requires-11 : tie.Need-put-bytes-requires-11
-put-bytes-requires-11 c κs = omega (arith, ap length (running c))
+put-bytes-requires-11 c κs = omega (arith, ap length (run c))
 
 same-length : tie.Need-same-length
 same-length c = search needs
@@ -182,7 +183,7 @@ same-length-11 : tie.Need-same-length-11
 same-length-11 c = search needs
 
 returns-11 : tie.Need-returns-11
-returns-11 c = rw (running (c .before .before .before)) (c .before .before .put-bytes11 .ensures)
+returns-11 c = rw (run (c .before .before .before)) (c .before .before .put-bytes11 .ensures)
 
 pub put-word-spec : {M : Type 1} → statement M
 put-word-spec =

@@ -13,10 +13,10 @@ use Rattle.writer.proofs.put_case.Statement.{statement}
 use Rattle.writer.proofs.put_case.Tie as tie
 
 -- the three parts have room
-parts : (c : tie.Start) → length (headText (c .args .procs) (c .args .policy)) + length (rowsText 2 3 (c .args .table .now) (taskCount (c .args .table .now))) + length (tailText (c .args .end) (c .args .trace .now)) ≤ length (c .args .out .now)
+parts : (c : tie.Start) → length (headText (c .args .procs) (c .args .policy)) + length (rowsText 3 3 (c .args .table .now) (taskCount (c .args .table .now))) + length (tailText (c .args .end) (c .args .trace .now)) ≤ length (c .args .out .now)
 parts c =
     let a = c .args in
-    let tasks = rowsText 2 3 (a .table .now) (taskCount (a .table .now)) in
+    let tasks = rowsText 3 3 (a .table .now) (taskCount (a .table .now)) in
     let tail = tailText (a .end) (a .trace .now) in
     omega (
       arith,

@@ -15,9 +15,9 @@ use Rattle.writer.proofs.put_tail.Statement.{statement}
 use Rattle.writer.proofs.put_tail.Tie as tie
 
 -- the end line and the releases have room
-parts : (c : tie.Start) → c .args .at + length (numberLine 9 3 (c .args .end ∷ [])) + length (rowsText 4 2 (c .args .trace .now) (releaseCount (c .args .trace .now))) ≤ length (c .args .out .now)
+parts : (c : tie.Start) → c .args .at + length (numberLine 9 4 (c .args .end ∷ [])) + length (rowsText 5 2 (c .args .trace .now) (releaseCount (c .args .trace .now))) ≤ length (c .args .out .now)
 unfolding tailText endText wordOf
-parts c = omega (arith, length-append (endText (c .args .end)) (rowsText 4 2 (c .args .trace .now) (releaseCount (c .args .trace .now))))
+parts c = omega (arith, length-append (endText (c .args .end)) (rowsText 5 2 (c .args .trace .now) (releaseCount (c .args .trace .now))))
 
 sub-put-line : tie.Need-sub-put-line
 sub-put-line c = search needs
@@ -37,7 +37,7 @@ put-line-requires c κs = omega (arith, parts (c .before .before .before .before
 -- the end line is laid
 ended : (c : tie.After-put-line)
     → Laid (c .before .before .before .before .before .args .at)
-    (numberLine 9 3 (c .before .before .before .before .before .args .end ∷ []))
+    (numberLine 9 4 (c .before .before .before .before .before .args .end ∷ []))
     (c .before .before .before .before .before .args .out .now)
     (putMid (c .before .before .before .before .before .args .at) (length (c .before .before .before .before .before .args .out .now) - c .before .before .before .before .before .args .at) (c .before .before .before .before .before .args .out .now) (c .put-line .last .0))
     (c .before .before .before .before .before .args .at + c .put-line .result)
