@@ -3,3 +3,4 @@ pub mod Answers
 pub mod Reports
 pub mod Taken
 pub mod Shows
+pub mod Wishes

@@ -1,6 +1,6 @@
 -- The words of a refusal, for a person to read: what is wrong and where, by the refusal's number and place (document 01, "Refusals by
 -- number"). A new number is one line of `reasons`, and one arm of `put_reason`.
-use Prim.Native.Nat.{ℕ, _+_, _/_, _%_}
+use Prim.Native.Nat.{ℕ, _+_, _/_, _%_, _≤_}
 use Prim.Native.Char.{code}
 use Prim.Native.String.{String}
 use Prim.Native.String as Text
@@ -9,6 +9,7 @@ use lib.Dec.{ltb}
 use lib.ListN.{getD}
 use Rattle.rules.specs.Words.{pick}
 use Rattle.rules.specs.Text.{digitsOf}
+use Rattle.puts.specs.Laid.{Laid}
 
 -- ---- bytes of a quoted text
 -- a sign's bytes in UTF-8, by its number; no sign here has a number over 65,535
@@ -55,3 +56,8 @@ reasonOf n p = getD (plainReason n p ∷ reasons p) n (plainReason n p)
 -- no words of a refusal are longer than this
 abbrev pub reasonRoom : ℕ
 reasonRoom = 100
+
+-- the words stand at the start of the lent bytes, and all else is as it was; their length is returned
+pub record Said (text old new : List ℕ) (n : ℕ) : Type 0 where
+  pub laid : Laid 0 text old new n
+  pub short : n ≤ reasonRoom

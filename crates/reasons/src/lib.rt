@@ -4,7 +4,7 @@ ghost use Prim.Native.Nat.{_+_, _≤_};
 ghost use lib.ListN.{length};
 ghost use Rattle.rules.specs.Text.{digitsOf};
 ghost use Rattle.puts.specs.Laid.{Laid};
-ghost use Rattle.reasons.specs.Reasons.{plainReason, reasonOf, reasonRoom};
+ghost use Rattle.reasons.specs.Reasons.{plainReason, reasonOf, reasonRoom, Said};
 use puts::put_bytes;
 use puts::put_number;
 
@@ -30,7 +30,7 @@ fn put_plain(out: &mut [u8], number: u32, place: u32) -> usize
 // Writes the words of a refusal, chosen by its number, at the start of the lent bytes and returns their length.
 pub fn put_reason(out: &mut [u8], number: u32, place: u32) -> usize
     requires { ⌜ reasonRoom ≤ length (now out) ⌝ }
-    ensures { λ r. ⌜ Laid 0 (reasonOf number place) (now (out .entry)) (now (out .exit)) r ⌝ }
+    ensures { λ r. ⌜ Said (reasonOf number place) (now (out .entry)) (now (out .exit)) r ⌝ }
 {
     match number {
         1 => put_bytes(out, 0, b"text: over 60,000 bytes"),

@@ -1,7 +1,7 @@
 -- `reasons::put_reason` meets its contract: in each arm the words are known by the number.
 use mathlib.Core.Path.{refl}
 use Rattle.reasons.specs.Reasons.{signBytes, words, reasonOf}
-use Rattle.reasons.proofs.Chosen.{chosen, beyond}
+use Rattle.reasons.proofs.Chosen.{chosen, plainly}
 use borrow.Author.Needs.{needs}
 use Rattle.reasons.proofs.put_reason.Statement.{statement}
 use Rattle.reasons.proofs.put_reason.Tie as tie
@@ -229,7 +229,7 @@ same-length-16 : tie.Need-same-length-16
 same-length-16 c = search needs
 
 returns-16 : tie.Need-returns-16
-returns-16 c = rw (beyond (c .before .before .before .before .before .before .args .number) (c .before .before .before .before .before .before .args .place) (c .before .before .before .before .match .rest)) (c .before .before .put-plain .ensures)
+returns-16 c = plainly (c .before .before .before .before .before .before .args .number) (c .before .before .before .before .before .before .args .place) (c .before .before .before .before .match .rest) (c .before .before .put-plain .ensures)
 
 pub put-reason-spec : {M : Type 1} → statement M
 put-reason-spec =
