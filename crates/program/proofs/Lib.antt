@@ -4,3 +4,4 @@ pub mod Reports
 pub mod Taken
 pub mod Shows
 pub mod Wishes
+pub mod Faults

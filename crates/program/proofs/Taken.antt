@@ -24,7 +24,7 @@ use Rattle.program.proofs.Answers.{refusal-says}
 
 module _ (s ts rs : List ℕ) where
   -- ---- a refusal
-  read-fault : 96 ≤ length ts → 4000 ≤ length rs → readFault s (length ts) (length rs) ≡ pick (eqb (textFault s .number) 0) noFault (textFault s)
+  pub read-fault : 96 ≤ length ts → 4000 ≤ length rs → readFault s (length ts) (length rs) ≡ pick (eqb (textFault s .number) 0) noFault (textFault s)
   unfolding readFault roomFault orNext
   read-fault p q = rw (le-leb 96 (length ts) p, le-leb 4000 (length rs) q)
 

@@ -10,7 +10,7 @@ ghost use Rattle.rules.specs.Answers.{takenAs};
 ghost use Rattle.rules.specs.Writer.{caseText};
 ghost use Rattle.rules.specs.Report.{report};
 ghost use Rattle.report.specs.Lines.{lineRoom, Printed};
-ghost use Rattle.program.specs.Asks.{askedOf, wordAsks, slotAsks, isQuiet, oneAsks, twoAsk, threeAsk, wordsAsk, isKnown, askedFault};
+ghost use Rattle.program.specs.Asks.{askedOf, wordAsks, slotAsks, isQuiet, oneAsks, twoAsk, threeAsk, wordsAsk, isKnown, askedFault, wishFault};
 ghost use Rattle.program.specs.Prints.{linesText, jobText, countText, slotText, refusalText, caseSays, textSays, Listed, jobRoom, printRoom, Shown, Stands};
 use libc::STDERR_FILENO;
 use libc::STDIN_FILENO;
@@ -383,7 +383,9 @@ fn asked_fault(wish: Wish, end: u32) -> Fault
 }
 
 // What is at fault in what a wish asks of a text: the refusal that `answer` prints, or number 0 where it prints none.
-fn fault_of(wish: Wish, text: &[u8]) -> Fault {
+fn fault_of(wish: Wish, text: &[u8]) -> Fault
+    ensures { λ r. ⌜ r ≡ wishFault wish (now (text .entry)) ⌝ }
+{
     let mut rows = [0u32; 96];
     let mut times = [0u32; 4000];
     let taken = reader::read(text, &mut rows, &mut times);
