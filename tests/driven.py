@@ -1,164 +1,176 @@
-"""Makes calls through the built program `drive` and takes its answers apart.
+"""Makes calls of the archive of the crate thrumcomb and holds all that they did.
 
 A call is a pair (name, args): the name and the arguments of a call in
-replay.py.  The answers are replay.Answer, so that they can be held against
-those of replay.py whole: number, values and every lent room.
+replay.py.  What it must do is a replay.Answer; the number returned, the place,
+the results and every lent slice are compared whole, with the guard words about
+each: a refusal writes its place and nothing else, and a call that gives
+results leaves the place alone.
 
-crates/drive/src/main.rt says how a call is written.
+archive_drive.c makes the calls, and says how one is written and what it prints.
 """
 
 import collections
+import functools
 import os
 import subprocess
 import tempfile
 
+import kit
 import replay
 
-HERE = os.path.dirname(os.path.abspath(__file__))
-ROOT = os.path.dirname(HERE)
-EXEC = os.path.join(ROOT, "bin", "exec")
-PROGRAM = os.path.join(ROOT, "target", "bin", "drive")
+EXEC = os.path.join(kit.ROOT, "bin", "exec")
 
-# The most that the program takes from one input.
-MOST_INPUT = 131_072
+# Each call of replay.py: its name in archive_drive.c, and the kinds of its
+# arguments: n a number, w a slice of numbers, b a slice of bytes.
+CALLS = {
+    "counts": ("counts", "nww"),
+    "replay": ("replay", "nnwnww"),
+    "running_set": ("running_set", "nnwnwn"),
+    "read_case": ("read", "bww"),
+    "write_case": ("write", "nnwnwb"),
+}
 
-KINDS = {"counts": 1, "replay": 2, "running_set": 3, "read_case": 4,
-         "write_case": 5}
+# What stands about everything lent, and all over place and results before a
+# call, as in archive_drive.c.
+GUARD = list(range(2654435769, 2654435769 + 8))
+GUARD_BYTES = bytes(range(185, 185 + 8))
+PLACE = list(range(2654435769, 2654435769 + 8 + 1 + 8))
+RESULTS = list(range(11400714819323198485, 11400714819323198485 + 8 + 5 + 8))
 
 
 # ---------------------------------------------------------------------------
-# Calls as the program reads them
+# Calls as the driver reads them
 
 
-def rising(numbers):
-    """The numbers as words; `7+3` stands for 7, 8, 9."""
-    words = []
+def run_from(numbers, i):
+    """How many numbers from place i on are each one more than the one before."""
+    first, rest = numbers[i], len(numbers) - i
+    if numbers[-1] == first + rest - 1 and \
+            numbers[i:] == list(range(first, first + rest)):
+        return rest
+    count = 1
+    while numbers[i + count] == first + count:
+        count += 1
+    return count
+
+
+def words(numbers):
+    """The numbers, each after a blank; `7+3` stands for 7, 8, 9."""
+    said = []
     i = 0
     while i < len(numbers):
-        first = numbers[i]
-        rest = len(numbers) - i
-        if numbers[-1] == first + rest - 1 and \
-                numbers[i:] == list(range(first, first + rest)):
-            count = rest
-        else:
-            count = 1
-            while numbers[i + count] == first + count:
-                count += 1
-        words.append(b"%d" % first if count == 1 else b"%d+%d" % (first, count))
+        count = run_from(numbers, i)
+        said.append(b" %d" % numbers[i] if count == 1
+                    else b" %d+%d" % (numbers[i], count))
         i += count
-    return words
+    return b"".join(said)
 
 
-def part(numbers):
-    return b" ".join([b"%d" % len(numbers), *rising(numbers)])
-
-
-def raw(data):
-    return b"%d " % len(data) + bytes(data)
-
-
-def case_words(procs, policy, table, end, trace):
-    return b"%d %d %s %d %s" % (procs, policy, part(table), end, part(trace))
+def written_argument(kind, value):
+    if kind == "n":
+        return b" n%d" % value
+    if kind == "b":
+        return b" b%d %s" % (len(value), bytes(value))
+    return b" w%d%s" % (len(value), words(value))
 
 
 def written_call(name, args):
-    """One call, as the program reads it."""
-    if name == "counts":
-        procs, table, room = args
-        said = b"%d %s %s" % (procs, part(table), part(room))
-    elif name == "read_case":
-        text, task_room, release_room = args
-        said = b"%s%s %s" % (raw(text), part(task_room), part(release_room))
-    else:
-        *case, last = args
-        if name == "replay":
-            said = part(last)
-        elif name == "running_set":
-            said = b"%d" % last
-        else:
-            said = raw(last)
-        said = case_words(*case) + b" " + said
-    return b"%d %s\n" % (KINDS[name], said)
-
-
-def batches(calls):
-    """The calls parted into lists with the input of each, none too long."""
-    batch, said = [], b""
-    for call in calls:
-        words = written_call(*call)
-        if len(said) + len(words) > MOST_INPUT:
-            yield batch, said
-            batch, said = [], b""
-        batch.append(call)
-        said += words
-    if batch:
-        yield batch, said
+    """One call, as the driver reads it."""
+    called, kinds = CALLS[name]
+    if len(kinds) != len(args):
+        raise ValueError(f"{name} has {len(kinds)} arguments")
+    return called.encode() + b"".join(map(written_argument, kinds, args)) + b"\n"
 
 
 # ---------------------------------------------------------------------------
-# Answers as the program prints them
+# What the calls did
 
 
-def numbers_of(words):
-    numbers = []
-    for word in words.split():
-        first, _, count = word.partition(b"+")
-        first = int(first)
-        rising_from = range(first, first + int(count or 1))
-        numbers += [number % 2**32 for number in rising_from]
-    return numbers
+def with_values(memory, values):
+    """The memory with the values behind its first guard words."""
+    return memory[:8] + list(values) + memory[8 + len(values):]
 
 
-def answer_at(call, output, at):
-    """The answer that stands at a place of the output, and where it ends."""
+def guarded(kind, held):
+    if kind == "b":
+        return b" " + (GUARD_BYTES + bytes(held) + GUARD_BYTES).hex().encode()
+    return words(GUARD + list(held) + GUARD)
+
+
+def line_for(call, answer):
+    """The line that the driver prints where the call gives the answer."""
     name, args = call
-    rooms = []
-    if name == "write_case":
-        mark = output.index(b" ; ", at)
-        head = output[at:mark]
-        end = mark + 3 + len(args[-1])
-        rooms.append(list(output[mark + 3:end]))
-        if output[end:end + 1] != b"\n":
-            raise ValueError("the room is not followed by a newline")
+    _, kinds = CALLS[name]
+    slices = [(kind, held) for kind, held in zip(kinds, args) if kind != "n"]
+    # The rooms are the last of the slices; those before are only read.
+    only_read = len(slices) - len(answer.rooms)
+    later = [held for _, held in slices[:only_read]] + list(answer.rooms)
+    place, results = PLACE, RESULTS
+    if answer.number == 0:
+        results = with_values(RESULTS, answer.values)
     else:
-        end = output.index(b"\n", at)
-        head, *lent = output[at:end].split(b" ;")
-        rooms += map(numbers_of, lent)
-    number, *values = numbers_of(head)
-    return replay.Answer(number, values, tuple(rooms)), end + 1
+        place = with_values(PLACE, answer.values)
+    parts = [b"%d" % answer.number, words(place),
+             b"".join(b" %d" % result for result in results)]
+    parts += [guarded(kind, held) for (kind, _), held in zip(slices, later)]
+    return b" ;".join(parts)
 
 
-def run_program(said):
-    """What the program prints for an input."""
+def difference(did, must):
+    """Which part of what a call did is not as it must be, or None."""
+    names = ["number", "place", "results"]
+    did, must = did.split(b" ;"), must.split(b" ;")
+    for at in range(max(len(did), len(must))):
+        if did[at:at + 1] != must[at:at + 1]:
+            name = names[at] if at < 3 else f"slice {at - 2}"
+            return (f"{name}\narchive: {shortened(did[at:at + 1])}\n"
+                    f"right:   {shortened(must[at:at + 1])}")
+    return None
+
+
+# ---------------------------------------------------------------------------
+# The driver, and what is held
+
+
+@functools.lru_cache(maxsize=None)
+def driver():
+    """The built driver's path, and the folder that is there as long as it is used."""
+    folder = tempfile.TemporaryDirectory()
+    source = os.path.join(kit.HERE, "archive_drive.c")
+    return kit.build([source], folder.name, "archive_drive", "-O1"), folder
+
+
+def run_driver(said):
+    """The status of the driver, what it printed for an input, and its errors."""
+    program, _ = driver()
     with tempfile.TemporaryFile() as given, tempfile.TemporaryFile() as got:
         given.write(said)
         given.seek(0)
-        subprocess.run([EXEC, PROGRAM], stdin=given, stdout=got, check=True)
+        done = subprocess.run([EXEC, program], stdin=given, stdout=got,
+                              stderr=subprocess.PIPE)
         got.seek(0)
-        return got.read()
+        return done.returncode, got.read(), done.stderr
 
 
-def require_program(test):
-    if not os.path.exists(PROGRAM):
-        test.fail("target/bin/drive is missing: run `rt check drive` first")
+def hold_to(test, calls, answers):
+    """Holds the archive to the answers, which are those of the calls in order."""
+    test.assertEqual(len(calls), len(answers))
+    status, output, errors = run_driver(b"".join(written_call(*call) for call in calls))
+    test.assertEqual((status, errors), (0, b""))
+    lines = output.splitlines()
+    test.assertEqual(len(lines), len(calls))
+    for call, answer, line in zip(calls, answers, lines):
+        must = line_for(call, answer)
+        if line != must:
+            test.fail(f"{shortened(call)}: {difference(line, must)}")
 
 
-def answers(test, calls):
-    """The program's answer to each call, in order."""
-    require_program(test)
-    found = []
-    for batch, said in batches(calls):
-        output = run_program(said)
-        at = 0
-        for call in batch:
-            try:
-                answer, at = answer_at(call, output, at)
-            except ValueError as error:
-                test.fail(f"no answer to {shortened(call)}: {error}; "
-                          f"printed: {output[at:at + 200]}")
-            found.append(answer)
-        test.assertEqual(output[at:at + 200], b"", "more answers than calls")
-    return found
+def hold(test, calls):
+    """Holds the archive to replay.py; returns the answers, which are the same."""
+    calls = list(calls)
+    answers = [getattr(replay, name)(*args) for name, args in calls]
+    hold_to(test, calls, answers)
+    return answers
 
 
 def shortened(call):
@@ -166,24 +178,10 @@ def shortened(call):
     return said if len(said) <= 2_000 else said[:2_000] + " .."
 
 
-def hold(test, calls):
-    """Holds the program's answers against replay.py's; returns them."""
-    calls = list(calls)
-    found = answers(test, calls)
-    test.assertEqual(len(found), len(calls))
-    for call, answer in zip(calls, found):
-        name, args = call
-        expected = getattr(replay, name)(*args)
-        if answer != expected:
-            test.fail(f"{shortened(call)}\nprogram:   {shortened(answer)}\n"
-                      f"replay.py: {shortened(expected)}")
-    return found
-
-
-def tally(calls, found):
+def tally(calls, answers):
     """How many answers of each number each call gave."""
     seen = collections.defaultdict(collections.Counter)
-    for (name, _), answer in zip(calls, found):
+    for (name, _), answer in zip(calls, answers):
         seen[name][answer.number] += 1
     return seen
 

@@ -20,7 +20,9 @@ TARGET = "x86_64-unknown-linux-gnu"
 HEADERS = {
     "stddef.h": "typedef __SIZE_TYPE__ size_t;\n",
     "stdint.h": "typedef __UINT8_TYPE__ uint8_t;\n"
-                "typedef __UINT32_TYPE__ uint32_t;\n",
+                "typedef __UINT32_TYPE__ uint32_t;\n"
+                "typedef __UINT64_TYPE__ uint64_t;\n"
+                "#define UINT32_MAX __UINT32_MAX__\n",
 }
 
 
@@ -53,13 +55,18 @@ def archive_is_current():
     return all(os.path.getmtime(source) <= made for source in sources)
 
 
+def archive():
+    """The path of the archive, made where it is missing or older than a source."""
+    if not archive_is_current():
+        run("rt", "staticlib", "thrumcomb")
+    return ARCHIVE
+
+
 def build(sources, folder, name, *flags):
     """Compiles C sources and links them with the archive; gives the program's path."""
     for header, text in HEADERS.items():
         with open(os.path.join(folder, header), "w") as file:
             file.write(text)
-    if not archive_is_current():
-        run("rt", "staticlib", "thrumcomb")
     tools = os.path.join(kit(), "toolchain")
     objects = []
     for source in sources:
@@ -71,5 +78,5 @@ def build(sources, folder, name, *flags):
         objects.append(compiled)
     program = os.path.join(folder, name)
     run(os.path.join(kit(), "bin", "rattle-link"), "--target", TARGET,
-        "--toolchain", tools, "-o", program, *objects, ARCHIVE)
+        "--toolchain", tools, "-o", program, *objects, archive())
     return program

@@ -17,16 +17,16 @@ fn counts::smaller: proved
 logic=proved functions=6 sum=064da1ca440f63e7 native=nat,char,string
 rt: rules proved (unchanged since it was last proved)
 rt: counts proved (8 s)
-rt: drive proved (37 s)
+rt: program proved (37 s)
 rt: reader NOT PROVED (exit 1, 12 s)
 rt: abi NOT PROVED: its dependency reader is not proved
 rt: must-fail counts/divides_by_m: refused, as it must be (first at proofs/count_of/Proof.antt:13:15; 9 s)
 rt: must-fail counts/leaves_out_a_task: refused, as it must be (10 s)
 rt: must-fail rules/none: NOT REFUSED: the crate is still proved with this edit (2 s)
 rt: must-fail counts/no_such_text: BAD EDIT: an 'old:' text is not in src/lib.rt
-rt: drive ran as nobody, and wrote what its file 'stdout' has (1 s)
-rt: show proved, and its run FAILED (3 s)
-rt: FAILED: reader abi rules/none counts/no_such_text show
+rt: program ran as nobody, and wrote what its file 'stdout' has (1 s)
+rt: second proved, and its run FAILED (3 s)
+rt: FAILED: reader abi rules/none counts/no_such_text second
 4 passed, 5 failed
 """
 
@@ -38,8 +38,8 @@ class Gate(unittest.TestCase):
         self.assertEqual({name: (times.proof, times.edits, times.edits_took, times.run)
                           for name, times in found.items()},
                          {"rules": (None, 1, 2, 0), "counts": (8, 2, 19, 0),
-                          "drive": (37, 0, 0, 1), "reader": (12, 0, 0, 0),
-                          "show": (None, 0, 0, 3)})
+                          "program": (37, 0, 0, 1), "reader": (12, 0, 0, 0),
+                          "second": (None, 0, 0, 3)})
 
     def test_the_sum_is_of_all(self):
         *_, last = gate.table(gate.by_crate(PRINTED.splitlines()))

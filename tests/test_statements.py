@@ -3,8 +3,8 @@
 The page's tables are read by their columns.  A name of a column such as
 "Said by" is declared in a file of its row: a function of the code, a type, a
 definition or a theorem.  A proof, an edit and a test that the page names
-exist.  A public call has no `requires`, and its contract uses the definitions
-that the page gives for it.
+exist.  A public call has no `requires`, its contract is the one promise that
+the page gives for it, and the law that only one answer fits is about that.
 """
 
 import glob
@@ -114,6 +114,13 @@ def contract_of(path, call):
     return found and found.group(0)
 
 
+def statement_of(path, law):
+    """What a theorem says: from its name to the lines that prove it."""
+    found = re.search(rf"^ *pub {re.escape(law)} :.*?(?=^ *(?:unfolding|{re.escape(law)}) )", text_of(path),
+                      re.MULTILINE | re.DOTALL)
+    return found.group(0) if found else ""
+
+
 def tests_there():
     return {name for path in glob.glob(os.path.join(ROOT, "tests", "test_*.py"))
             for name in re.findall(r"^    def (test_\w+)\(", text_of(path), re.MULTILINE)}
@@ -177,7 +184,7 @@ class Statements(unittest.TestCase):
                         self.assertIn(name, there)
 
     def test_every_law_beside_a_path_is_declared_there(self):
-        # Such as: `counts-decided` in `bridge/specs/Decided.antt`.
+        # Such as: `counts-decided` in `theory/specs/Decided.antt`.
         found = re.findall(r"`([^` /]+)` in\s+`([^`]+/[^`]+)`", text_of("docs/STATEMENTS.md"))
         self.assertGreater(len(found), 10)
         for name, token in found:
@@ -214,6 +221,15 @@ class PublicCalls(unittest.TestCase):
                 self.assertIn("ensures", contract)
                 for name in row.tokens(CONTRACT):
                     self.assertTrue(stands_in(name, contract), name)
+
+    def test_a_contract_is_the_one_promise_that_its_law_is_about(self):
+        for row, path, call in self.calls():
+            with self.subTest(call=call):
+                promise, = row.tokens(CONTRACT)
+                self.assertEqual(contract_of(path, call).count("ensures"), 1)
+                law, token = re.search(r"`([^`]+)` in `([^`]+)`", row.text("Only one answer fits")).groups()
+                statement = statement_of(path_of(token), law)
+                self.assertEqual(len(re.findall(rf"(?<![\w-]){promise}(?![\w-])", statement)), 2)
 
     def test_no_public_call_asks_anything(self):
         for _, path, call in self.calls():
@@ -270,13 +286,13 @@ class TheChecks(unittest.TestCase):
         self.assertTrue(declares(counts, "freeCount"))
         self.assertFalse(declares(counts, "taskCount"))
         self.assertTrue(declares("crates/counts/src/lib.rt", "counts"))
-        self.assertFalse(declares("crates/counts/src/lib.rt", "countsRoom"))
+        self.assertFalse(declares("crates/counts/src/lib.rt", "CountsPromise"))
         self.assertTrue(declares("crates/rules/src/lib.rt", "Demoted"))
         self.assertFalse(declares("crates/theory/specs/Demand3.antt", "free-slot"))
 
     def test_a_contract_ends_where_the_body_starts(self):
         contract = contract_of("crates/counts/src/lib.rt", "counts")
-        self.assertIn("countsRoom", contract)
+        self.assertIn("CountsPromise", contract)
         self.assertNotIn("put_counts", contract)
         self.assertIsNone(contract_of("crates/counts/src/lib.rt", "put_counts"))
 

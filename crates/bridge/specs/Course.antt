@@ -10,16 +10,17 @@ use native.Mathlib.Omega.{arith}
 use lib.Dec.{eqb}
 use borrow.Author.Tests.{ne-eqb}
 use Rattle.rules.specs.declared.Job.{Job}
-use Rattle.rules.specs.declared.Job.the-variants.{Idle, Normal, Demoted}
+use Rattle.rules.specs.declared.Job.the-variants.{Idle}
 use Rattle.rules.specs.declared.Task.{Task}
 use Rattle.rules.specs.declared.Run.{Run}
 use Rattle.rules.specs.Words.{pick, firstIn}
 use Rattle.rules.specs.Case.{deadline}
-use Rattle.rules.specs.Slot.{Setup, TaskSet, noTask, jobAt, isPresent, leftOf, dueOf, present, isCf, isDemotedNow, readied, demoted, contentionFree, opened, worked, workedJob, demotedNow, lastUnit}
+use Rattle.rules.specs.Policies.{demoting}
+use Rattle.rules.specs.Slot.{Setup, TaskSet, noTask, jobAt, isPresent, dueOf, present, isDemotedNow, readied, demoted, contentionFree, opened, worked, workedJob, demotedNow, isLast}
 use Rattle.rules.specs.Replay.{fresh, idleTask}
 use Rattle.lists.specs.Lists.{tab-at, tab-long}
 use Rattle.bridge.specs.Steps.{Full, opened-full, worked-full, readied-at, opened-at, worked-at, readiedJob, judgedJob, openedJob}
-use Rattle.bridge.specs.Jobs.{Stand, slot-stand}
+use Rattle.bridge.specs.Jobs.{Stand, slot-stand, work-absent}
 
 -- what stays the same, the set released at each time, and the set worked in each slot
 pub record Course : Type 0 where
@@ -50,7 +51,7 @@ demotedIn k t = demotedNow (k .setup) t (k .released t) (stateIn k t)
 
 -- the tasks whose job has its last unit worked in the slot at t
 unfoldable pub finishedIn : Course → ℕ → TaskSet
-finishedIn k t i = present (openedIn k t) i && k .works t i && lastUnit (leftOf (jobAt (openedIn k t) i))
+finishedIn k t i = present (openedIn k t) i && k .works t i && isLast (jobAt (openedIn k t) i)
 
 -- the job of the task at i released at a: one more than the first slot before its deadline in which it finishes; 0 where none
 unfoldable pub finishIn : Course → ℕ → ℕ → ℕ
@@ -67,7 +68,7 @@ foundIn k t i = readiedJob (k .setup) t (k .released t) (stateIn k t) i
 
 -- what steps 3 and 4 make of it
 abbrev pub openIn : Course → ℕ → ℕ → Job
-openIn k t i = openedJob (isCf (k .setup)) (isCf (k .setup) && contentionFreeIn k t) (foundIn k t i)
+openIn k t i = openedJob (demoting (k .setup .policy)) (demoting (k .setup .policy) && contentionFreeIn k t) (foundIn k t i)
 
 module _ (k : Course) where
   pub course-full : (t : ℕ) → Full (stateIn k t)
@@ -88,11 +89,11 @@ module _ (k : Course) where
     unfolding stateIn
     next-in = worked-at i l (k .works t) (openedIn k t) (opened-full (k .setup) t (k .released t) (stateIn k t) (course-full t)) ∙ rw open-in
 
-    pub demoted-in : demotedIn k t i ≡ (isCf (k .setup) && isDemotedNow (foundIn k t i))
+    pub demoted-in : demotedIn k t i ≡ (demoting (k .setup .policy) && isDemotedNow (foundIn k t i))
     unfolding demotedIn demotedNow
     demoted-in = rw (readied-at i l (k .setup) t (k .released t) (stateIn k t) (course-full t))
 
-    pub finished-in : finishedIn k t i ≡ (isPresent (openIn k t i) && k .works t i && lastUnit (leftOf (openIn k t i)))
+    pub finished-in : finishedIn k t i ≡ (isPresent (openIn k t i) && k .works t i && isLast (openIn k t i))
     unfolding finishedIn present
     finished-in = rw open-in
 
@@ -126,15 +127,9 @@ module _ (k : Course) (i a : ℕ) (s : Sole k i a) where
       let t = a + n in
       let l = s .task in
       let o = openIn k t i in
-      rw (finished-in k t i l, demoted-in k t i l, next-in k t i l ∙ only o (k .works t i))
-      (slot-stand (isCf (k .setup)) (isCf (k .setup) && contentionFreeIn k t) (isPresent o && k .works t i) (fin n) (dem n) (a + D) t (foundIn k t i) (λ e. rw e) h)
-    where
-      -- work does nothing to a task that has no job
-      only : (o : Job) (b : Bool) → pick b (workedJob o) o ≡ pick (isPresent o && b) (workedJob o) o
-      only Idle true = refl
-      only Idle false = refl
-      only (Normal l f d) b = refl
-      only (Demoted l d) b = refl
+      rw (finished-in k t i l, demoted-in k t i l, next-in k t i l ∙ work-absent o (k .works t i))
+      (slot-stand (demoting (k .setup .policy)) (demoting (k .setup .policy) && contentionFreeIn k t)
+      (isPresent o && k .works t i) (fin n) (dem n) (a + D) t (foundIn k t i) (λ e. rw e) h)
 
   -- between release and deadline a slot finds what the slot before it left
   found-after : (n : ℕ) → suc n < D → Stand (fin (suc n)) (dem (suc n)) (a + D) (jobAt (stateIn k (suc (a + n))) i) → foundIn k (suc (a + n)) i ≡ jobAt (stateIn k (suc (a + n))) i

@@ -1,19 +1,19 @@
 -- What one slot writes: the record of a task's job (`recordBy` of rules, Replay) changes only where the job finishes or is demoted in the
 -- slot, or is to be removed as missed right after it; and what it is then. The proofs of the replay cite it: it writes nothing else.
 use mathlib.Core.Path.{_≡_, refl, ap, sym, _∙_}
-use mathlib.Core.Bool.{Bool, true, false, _&&_, _||_, and-false, false≢true, true≢false}
+use mathlib.Core.Bool.{Bool, true, false, _&&_, _||_, and-false, true≢false}
 use Prim.Native.Nat.{ℕ, suc, _-_, _<_}
 use native.Mathlib.Omega.{arith}
 use lib.Dec.{eqb, leb}
 use borrow.Author.Tests.{eqb-true, eqb-false, le-leb, lt-leb}
 use Rattle.rules.specs.Words.{pick}
 use Rattle.rules.specs.Case.{Case, releaseCount, nameOf}
-use Rattle.rules.specs.Slot.{isPresent, leftOf, dueOf, isMissed, isCf, isDemotedNow, workedJob, missed}
+use Rattle.rules.specs.Policies.{demoting}
+use Rattle.rules.specs.Slot.{isPresent, isLast, dueOf, isMissed, workedJob, missed}
 use Rattle.rules.specs.Replay.{setupIn, releasedAt, stateAt, ranAt, finishedAt, missedAt, demotedAt, verdictOf, Record, recordOf, recordBy}
 use Rattle.rules.specs.declared.Job.{Job}
-use Rattle.rules.specs.declared.Job.the-variants.{Idle, Normal, Demoted}
 use Rattle.bridge.specs.Steps.{lowers}
-use Rattle.bridge.specs.Jobs.{kept-opened}
+use Rattle.bridge.specs.Jobs.{kept-opened, goes-on, absent-demotes}
 use Rattle.bridge.specs.Stands.{readyAt, openAt, finished-at, demoted-at, ran-present, next-at}
 use Rattle.legal.specs.Legal.{Legal}
 use Rattle.bridge.specs.Records.{noted}
@@ -33,16 +33,9 @@ pub record Stays (o n : Job) : Type 0 where
   pub there : isPresent n ≡ true
   pub due : dueOf n ≡ dueOf o
 
-stays : (o : Job) (ran : Bool) → isPresent o ≡ true → (ran && leb (leftOf o) 1) ≡ false → Stays o (pick ran (workedJob o) o)
+stays : (o : Job) (ran : Bool) → isPresent o ≡ true → (ran && isLast o) ≡ false → Stays o (pick ran (workedJob o) o)
 stays o false p e = record { there = p; due = refl }
-stays Idle true p e = absurd (false≢true p)
-stays (Normal l f d) true p e = rw e (record { there = refl; due = refl })
-stays (Demoted l d) true p e = rw e (record { there = refl; due = refl })
-
-absent-demotes : (j : Job) → isPresent j ≡ false → isDemotedNow j ≡ false
-absent-demotes Idle e = refl
-absent-demotes (Normal l f d) e = absurd (true≢false e)
-absent-demotes (Demoted l d) e = refl
+stays o true p e = let g = goes-on o e in record { there = g .there ∙ p; due = g .due }
 
 -- a deadline that is still to come has come after one slot more just where it is then
 just-come : (t due : ℕ) → t < due → leb due (suc t) ≡ eqb due (suc t)
@@ -81,10 +74,11 @@ module _ (c : Case) (t i : ℕ) (l : i < 32) where
   -- of a task that is not there nothing is written
   absent : isPresent (openAt c t i) ≡ false → event fin dem late ≡ false
   absent e =
-      let k = kept-opened (isCf (setupIn c)) (lowers (setupIn c) t (releasedAt c t) (stateAt c t)) (readyAt c t i) in
+      let k = kept-opened (demoting (c .policy)) (lowers (setupIn c) t (releasedAt c t) (stateAt c t)) (readyAt c t i) in
       let r = ran-present c i l t e in
       let a : fin ≡ false = finished-at c i l t ∙ rw r in
-      let b : dem ≡ false = demoted-at c i l t ∙ rw (absent-demotes (readyAt c t i) (sym (k .there) ∙ e)) (and-false (isCf (setupIn c))) in
+      let b : dem ≡ false =
+      demoted-at c i l t ∙ rw (absent-demotes (readyAt c t i) (sym (k .there) ∙ e)) (and-false (demoting (c .policy))) in
       let d : late ≡ false = late-here ∙ rw (r, e) in
       rw (a, b, d)
 

@@ -1,7 +1,7 @@
 -- How the record of a release (rules, Replay) goes on from time t to t + 1, and when its task is idle; and `sole`, that a task of an
 -- accepted case never has two jobs at once (document 01, "The model"). Turn takes these together for all releases of a task.
 use mathlib.Core.Path.{_≡_, refl, ap, sym, _∙_}
-use mathlib.Core.Bool.{Bool, true, false, _&&_, _||_, and-false, or-true, false≢true, true≢false}
+use mathlib.Core.Bool.{Bool, true, false, _&&_, _||_, and-false, or-true, true≢false}
 use mathlib.Core.Logic.{_⊎_, inl, inr}
 use mathlib.Core.List.{List}
 use Prim.Native.Nat.{ℕ, zero, suc, _+_, _-_, _≤_, _<_}
@@ -12,14 +12,15 @@ use lib.Dec.{eqb, leb}
 use borrow.Author.Tests.{eqb-true, eq-eqb, le-leb, lt-leb}
 use Rattle.rules.specs.Words.{pick, orElse, firstIn}
 use Rattle.rules.specs.Case.{Case, period, execution, deadline, releaseCount, timeOf, nameOf}
-use Rattle.rules.specs.Slot.{jobAt, isPresent, isDemoted, dueOf, isCf, isDemotedNow}
+use Rattle.rules.specs.Policies.{demoting}
+use Rattle.rules.specs.Slot.{jobAt, isPresent, isDemoted, dueOf, isDemotedNow}
 use Rattle.rules.specs.Replay.{setupIn, releasedIn, releasedAt, idleTask, stateFrom, stateAt, finishedAt, demotedAt, slotsBy, finishBy, demotionBy, verdictBy, verdictOf, Record, recordOf, jobRecord}
 use Rattle.rules.specs.declared.Job.{Job}
-use Rattle.rules.specs.declared.Job.the-variants.{Idle, Normal, Demoted}
+use Rattle.rules.specs.declared.Job.the-variants.{Idle}
 use Rattle.rules.specs.declared.Task.{Task}
 use Rattle.lists.specs.Lists.{tab-at}
 use Rattle.bridge.specs.Steps.{lowers, judgedJob}
-use Rattle.bridge.specs.Jobs.{Kept, kept-opened, Stand, written, idle-now}
+use Rattle.bridge.specs.Jobs.{Kept, kept-opened, Stand, written, idle-now, demotes-once}
 use Rattle.bridge.specs.Course.{Sole}
 use Rattle.bridge.specs.Stands.{replayOf, readyAt, openAt, ready, stands, next-at, ran-present, demoted-at}
 use Rattle.legal.specs.Legal.{Legal, Good}
@@ -85,7 +86,7 @@ module _ (c : Case) (i : ℕ) (l : i < 32) where
   -- a slot that finds no job after steps 1 and 2 leaves none
   idle-next : (t : ℕ) → readyAt c t i ≡ Idle → jobAt (stateAt c (suc t)) i ≡ Idle
   idle-next t e =
-      let k = kept-opened (isCf (setupIn c)) (lowers (setupIn c) t (releasedAt c t) (stateAt c t)) (readyAt c t i) in
+      let k = kept-opened (demoting (c .policy)) (lowers (setupIn c) t (releasedAt c t) (stateAt c t)) (readyAt c t i) in
       let n : isPresent (openAt c t i) ≡ false = k .there ∙ ap isPresent e in
       next-at c i l t ∙ rw (ran-present c i l t n) (idle-now (openAt c t i) n)
 
@@ -186,8 +187,9 @@ module _ (c : Case) (i a : ℕ) (s : Sole (replayOf c) i a) (pos : 0 < deadline 
     unfolding finishBy demotionBy verdictBy firstIn
     next = let e : slotsBy c i a (suc (a + n)) ≡ suc n = rw (← add-suc) (slots-at (suc n) h) in rw e
 
-    kept : Kept (readyAt c (a + n) i) (openAt c (a + n) i) (isDemoted (readyAt c (a + n) i) || (isCf (setupIn c) && isDemotedNow (readyAt c (a + n) i)))
-    kept = kept-opened (isCf (setupIn c)) (lowers (setupIn c) (a + n) (releasedAt c (a + n)) (stateAt c (a + n))) (readyAt c (a + n) i)
+    kept : Kept (readyAt c (a + n) i) (openAt c (a + n) i)
+        (isDemoted (readyAt c (a + n) i) || (demoting (c .policy) && isDemotedNow (readyAt c (a + n) i)))
+    kept = kept-opened (demoting (c .policy)) (lowers (setupIn c) (a + n) (releasedAt c (a + n)) (stateAt c (a + n))) (readyAt c (a + n) i)
 
     pub absent-at : isPresent (openAt c (a + n) i) ≡ false → jobRecord c i a (suc (a + n)) ≡ jobRecord c i a (a + n)
     absent-at e = go (ready c i a s n h)
@@ -195,7 +197,7 @@ module _ (c : Case) (i a : ℕ) (s : Sole (replayOf c) i a) (pos : 0 < deadline 
         go : Stand fin dem (a + deadline (c .table) i) (readyAt c (a + n) i) → jobRecord c i a (suc (a + n)) ≡ jobRecord c i a (a + n)
         go (inl (z, v)) = absurd (true≢false (sym (kept .there ∙ v .there) ∙ e))
         go (inr (p, z)) =
-            let q : demotedAt c (a + n) i ≡ false = demoted-at c i (s .task) (a + n) ∙ rw z (and-false (isCf (setupIn c))) in
+            let q : demotedAt c (a + n) i ≡ false = demoted-at c i (s .task) (a + n) ∙ rw z (and-false (demoting (c .policy))) in
             next ∙
             rw (q, orElse-some fin (suc (a + n)) (finishedAt c (a + n) i) p, orElse-not dem (suc (a + n)))
             (ap (λ (x : ℕ). recordOf x fin dem) (verdict-some fin _ _ p) ∙ sym now)
@@ -207,9 +209,7 @@ module _ (c : Case) (i a : ℕ) (s : Sole (replayOf c) i a) (pos : 0 < deadline 
         dem-next : (b : Bool) (j : Job) (d v : ℕ) → isDemoted j ≡ written d → orElse d (b && isDemotedNow j) v ≡ pick (b && isDemotedNow j) v d
         dem-next b j zero v q = refl
         dem-next false j (suc d) v q = refl
-        dem-next true Idle (suc d) v q = refl
-        dem-next true (Normal x y z) (suc d) v q = absurd (false≢true q)
-        dem-next true (Demoted x y) (suc d) v q = refl
+        dem-next true j (suc d) v q = rw (demotes-once j q)
 
         go : Stand fin dem (a + deadline (c .table) i) (readyAt c (a + n) i) → LiveAt c i a (a + n)
         go (inr (p, z)) = absurd (true≢false (sym e ∙ kept .there ∙ ap isPresent z))
@@ -222,6 +222,6 @@ module _ (c : Case) (i a : ℕ) (s : Sole (replayOf c) i a) (pos : 0 < deadline 
                 orElse-none fin (suc (a + n)) (finishedAt c (a + n) i) z,
                 demoted-at c i (s .task) (a + n),
                 slots-at n (omega arith),
-                dem-next (isCf (setupIn c)) (readyAt c (a + n) i) dem (suc (a + n)) (v .lowly),
+                dem-next (demoting (c .policy)) (readyAt c (a + n) i) dem (suc (a + n)) (v .lowly),
               );
         }

@@ -5,10 +5,10 @@ use mathlib.Core.Path.{_≡_, refl, sym, ap, _∙_, fun-ext}
 use mathlib.Core.Bool.{Bool, true, false, _&&_}
 use Prim.Native.Nat.{ℕ, zero, suc, _+_, _-_, _<_}
 use native.Mathlib.Nat.{add-zero, add-suc, zero-add, add-assoc}
-use lib.Dec.{leb}
 use Rattle.rules.specs.Words.{pick, firstIn}
 use Rattle.rules.specs.Case.{Case, deadline}
-use Rattle.rules.specs.Slot.{Setup, TaskSet, jobAt, isPresent, leftOf, present, isCf, isDemotedNow, opened, chosen, worked, workedJob, after, ran, finished, demotedNow}
+use Rattle.rules.specs.Policies.{demoting}
+use Rattle.rules.specs.Slot.{Setup, TaskSet, jobAt, isPresent, isLast, present, isDemotedNow, opened, chosen, worked, workedJob, after, ran, finished, demotedNow}
 use Rattle.rules.specs.Replay.{setupIn, releasedAt, stateFrom, stateAt, finishedAt, demotedAt, ranAt}
 use Rattle.rules.specs.declared.Job.{Job}
 use Rattle.rules.specs.declared.Run.{Run}
@@ -32,17 +32,17 @@ abbrev pub readyAt : Case → ℕ → ℕ → Job
 readyAt c t i = readiedJob (setupIn c) t (releasedAt c t) (stateAt c t) i
 
 abbrev pub openAt : Case → ℕ → ℕ → Job
-openAt c t i = openedJob (isCf (setupIn c)) (lowers (setupIn c) t (releasedAt c t) (stateAt c t)) (readyAt c t i)
+openAt c t i = openedJob (demoting (c .policy)) (lowers (setupIn c) t (releasedAt c t) (stateAt c t)) (readyAt c t i)
 
 module _ (c : Case) (i : ℕ) (l : i < 32) (t : ℕ) where
   pub open-at : jobAt (opened (setupIn c) t (releasedAt c t) (stateAt c t)) i ≡ openAt c t i
   open-at = opened-at i l (setupIn c) t (releasedAt c t) (stateAt c t) (state-full c t)
 
-  pub finished-at : finishedAt c t i ≡ (ranAt c t i && leb (leftOf (openAt c t i)) 1)
+  pub finished-at : finishedAt c t i ≡ (ranAt c t i && isLast (openAt c t i))
   unfolding finishedAt finished ranAt
   finished-at = rw open-at
 
-  pub demoted-at : demotedAt c t i ≡ (isCf (setupIn c) && isDemotedNow (readyAt c t i))
+  pub demoted-at : demotedAt c t i ≡ (demoting (c .policy) && isDemotedNow (readyAt c t i))
   unfolding demotedAt demotedNow
   demoted-at = rw (readied-at i l (setupIn c) t (releasedAt c t) (stateAt c t) (state-full c t))
 

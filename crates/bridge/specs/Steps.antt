@@ -6,7 +6,8 @@ use Prim.Native.Nat.{ℕ, _-_, _<_}
 use native.Mathlib.Omega.{arith}
 use lib.ListN.{length, getD}
 use Rattle.rules.specs.Words.{pick}
-use Rattle.rules.specs.Slot.{Setup, TaskSet, noTask, withJob, jobAt, leftOf, dueOf, eachTask, isMissed, judgedTask, judged, releasedJob, releasedTask, joinedTask, joined, isCf, isDemotedNow, demotedTask, demoted, contentionFree, loweredJob, loweredTask, lowered, readied, opened, chosen, workedJob, workedTask, worked, after, ran}
+use Rattle.rules.specs.Policies.{demoting}
+use Rattle.rules.specs.Slot.{Setup, TaskSet, noTask, withJob, jobAt, leftOf, dueOf, eachTask, isMissed, judgedTask, judged, releasedJob, releasedTask, joinedTask, joined, isDemotedNow, demotedTask, demoted, contentionFree, loweredJob, loweredTask, lowered, readied, opened, chosen, workedJob, workedTask, worked, after, ran}
 use Rattle.rules.specs.declared.Job.{Job}
 use Rattle.rules.specs.declared.Job.the-variants.{Idle, Demoted}
 use Rattle.rules.specs.declared.Task.{Task}
@@ -34,11 +35,11 @@ joined-full g now s r h = each-full _ r h
 
 pub demoted-full : (g : Setup) (r : Run) → Full r → Full (demoted g r)
 unfolding demoted
-demoted-full g r h = pick-full (isCf g) _ _ (each-full _ r h) h
+demoted-full g r h = pick-full (demoting (g .policy)) _ _ (each-full _ r h) h
 
 pub lowered-full : (g : Setup) (r : Run) → Full r → Full (lowered g r)
 unfolding lowered
-lowered-full g r h = pick-full (isCf g && contentionFree g r) _ _ (each-full _ r h) h
+lowered-full g r h = pick-full (demoting (g .policy) && contentionFree g r) _ _ (each-full _ r h) h
 
 pub worked-full : (s : TaskSet) (r : Run) → Full r → Full (worked s r)
 unfolding worked
@@ -67,7 +68,7 @@ readiedJob g now s r i = pick (s i) (releasedJob g now i) (judgedJob now (jobAt 
 
 -- whether the slot lowers the free counts
 abbrev pub lowers : Setup → ℕ → TaskSet → Run → Bool
-lowers g now s r = isCf g && contentionFree g (demoted g (readied g now s r))
+lowers g now s r = demoting (g .policy) && contentionFree g (demoted g (readied g now s r))
 
 abbrev pub openedJob : Bool → Bool → Job → Job
 openedJob cf lowers j = pick lowers (loweredJob (demotedJob cf j)) (demotedJob cf j)
@@ -104,19 +105,20 @@ module _ (i : ℕ) (l : i < 32) where
       ap (λ (t : Task). t .job) (each-at (joinedTask g now s) (judged now r) (judged-full now r h)) ∙
       pick-job (s i) (releasedTask g now i (getD (judged now r .tasks) i noTask)) (getD (judged now r .tasks) i noTask) ∙ ap (pick (s i) (releasedJob g now i)) (judged-at now r h)
 
-  pub demoted-at : (g : Setup) (r : Run) → Full r → jobAt (demoted g r) i ≡ demotedJob (isCf g) (jobAt r i)
+  pub demoted-at : (g : Setup) (r : Run) → Full r → jobAt (demoted g r) i ≡ demotedJob (demoting (g .policy)) (jobAt r i)
   unfolding demoted
   demoted-at g r h =
-      pick-run (isCf g) (eachTask (λ i t. demotedTask t) r) r i ∙
-      ap (λ (j : Job). pick (isCf g) j (jobAt r i)) (ap (λ (t : Task). t .job) (each-at (λ i t. demotedTask t) r h) ∙ demoted-job (getD (r .tasks) i noTask)) ∙
-      pick-and (isCf g) (isDemotedNow (jobAt r i)) (Demoted (leftOf (jobAt r i)) (dueOf (jobAt r i))) (jobAt r i)
+      pick-run (demoting (g .policy)) (eachTask (λ i t. demotedTask t) r) r i ∙
+      ap (λ (j : Job). pick (demoting (g .policy)) j (jobAt r i))
+      (ap (λ (t : Task). t .job) (each-at (λ i t. demotedTask t) r h) ∙ demoted-job (getD (r .tasks) i noTask)) ∙
+      pick-and (demoting (g .policy)) (isDemotedNow (jobAt r i)) (Demoted (leftOf (jobAt r i)) (dueOf (jobAt r i))) (jobAt r i)
 
   pub opened-at : (g : Setup) (now : ℕ) (s : TaskSet) (r : Run) → Full r
-      → jobAt (opened g now s r) i ≡ openedJob (isCf g) (lowers g now s r) (readiedJob g now s r i)
+      → jobAt (opened g now s r) i ≡ openedJob (demoting (g .policy)) (lowers g now s r) (readiedJob g now s r i)
   unfolding opened lowered
   opened-at g now s r h =
       let f = readied-full g now s r h in
-      let e = demoted-at g (readied g now s r) f ∙ ap (demotedJob (isCf g)) (readied-at g now s r h) in
+      let e = demoted-at g (readied g now s r) f ∙ ap (demotedJob (demoting (g .policy))) (readied-at g now s r h) in
       let d = demoted g (readied g now s r) in
       pick-run (lowers g now s r) (eachTask (λ i t. loweredTask t) d) d i ∙
       ap₂ (pick (lowers g now s r)) (ap (λ (t : Task). t .job) (each-at (λ i t. loweredTask t) _ (demoted-full g _ f)) ∙ ap loweredJob e) e

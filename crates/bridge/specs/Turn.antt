@@ -12,7 +12,8 @@ use lib.Dec.{eqb}
 use borrow.Author.Tests.{eqb-true, eqb-false}
 use Rattle.rules.specs.Words.{pick}
 use Rattle.rules.specs.Case.{Case, period, deadline, releaseCount, timeOf, nameOf}
-use Rattle.rules.specs.Slot.{isPresent, dueOf, isCf}
+use Rattle.rules.specs.Policies.{demoting}
+use Rattle.rules.specs.Slot.{isPresent, dueOf}
 use Rattle.rules.specs.Replay.{setupIn, releasedAt, stateAt, finishedAt, demotedAt, demotionBy, recordOf, jobRecord, recordBy}
 use Rattle.rules.specs.declared.Job.the-variants.{Idle}
 use Rattle.bridge.specs.Steps.{lowers}
@@ -100,7 +101,8 @@ module _ (c : Case) (g : Legal c) (t k : ℕ) (w : Reached (c .trace) k (suc t))
           → recordBy c (suc t) j ≡ recordBy c t j
 
     idle-open : readyAt c t i ≡ Idle → isPresent (openAt c t i) ≡ false
-    idle-open e = kept-opened (isCf (setupIn c)) (lowers (setupIn c) t (releasedAt c t) (stateAt c t)) (readyAt c t i) .there ∙ ap isPresent e
+    idle-open e =
+        kept-opened (demoting (c .policy)) (lowers (setupIn c) t (releasedAt c t) (stateAt c t)) (readyAt c t i) .there ∙ ap isPresent e
 
     pub turn-live : isPresent (openAt c t i) ≡ true → Live
     unfolding recordBy

@@ -1,18 +1,12 @@
 -- What the checks on numbers (rules, Refusals) ask of each other, and the parts of the row of tests that one function makes.
 -- These stand in contracts of inner functions alone; a public call asks nothing of its caller.
-use Prim.Native.Nat.{ℕ, suc, _≤_, _<_}
+use Prim.Native.Nat.{ℕ, suc, _≤_}
 use mathlib.Core.List.{List, [], _∷_}
 use Rattle.rules.specs.Words.{tab}
 use Rattle.rules.specs.Limits.{maxTasks, maxEnd}
-use Rattle.rules.specs.Case.{taskCount, period, execution, deadline}
-use Rattle.rules.specs.Refusals.{first, tableFault, tasksFault, endFault, traceFault, lastBefore, releasesFault}
+use Rattle.rules.specs.Refusals.{procsFault, policyFault, tableFault, tasksFault, endFault, traceFault, lastBefore, releasesFault}
 use Rattle.rules.specs.declared.Fault.{Fault}
-use Rattle.legal.specs.Legal.{Good}
-
--- a table that stands: few tasks, each with 1 ≤ C ≤ D ≤ T ≤ 10,000
-pub record Sound (ts : List ℕ) : Type 0 where
-  pub few : taskCount ts ≤ maxTasks
-  pub good : (i : ℕ) → i < taskCount ts → Good (period ts i) (execution ts i) (deadline ts i)
+pub use Rattle.legal.specs.Passing.{Sound}
 
 -- one more than each task's last release among the first j
 abbrev pub lasts : List ℕ → ℕ → List ℕ
@@ -22,10 +16,14 @@ lasts rs j = tab (λ i. lastBefore rs j (suc i)) 0 maxTasks
 abbrev pub Early : List ℕ → ℕ → Type 0
 Early rs j = (name : ℕ) → lastBefore rs j name ≤ maxEnd
 
--- the tests from the end on: 7, 12, then release by release
-abbrev pub traceChecks : List ℕ → ℕ → List ℕ → Fault
-traceChecks ts e rs = first (endFault e ∷ traceFault rs ∷ releasesFault ts e rs ∷ [])
+-- the tests on the table: 5, 6
+abbrev pub tableTests : List ℕ → List Fault
+tableTests ts = tableFault ts ∷ tasksFault ts ∷ []
 
--- the tests from the table on: 5, 6, then those from the end on
-abbrev pub tableChecks : List ℕ → ℕ → List ℕ → Fault
-tableChecks ts e rs = first (tableFault ts ∷ tasksFault ts ∷ endFault e ∷ traceFault rs ∷ releasesFault ts e rs ∷ [])
+-- those up to the table: 4, 14, 5, 6
+abbrev pub headTests : ℕ → ℕ → List ℕ → List Fault
+headTests m p ts = procsFault m ∷ policyFault p ∷ tableTests ts
+
+-- those after it: 7, 12, then release by release
+abbrev pub traceTests : List ℕ → ℕ → List ℕ → List Fault
+traceTests ts e rs = endFault e ∷ traceFault rs ∷ releasesFault ts e rs ∷ []

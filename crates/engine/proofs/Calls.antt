@@ -1,37 +1,16 @@
--- What the checks of the replay and of the running set give where they find nothing, and the totals that are read off the room.
+-- The totals that are read off the room of a replay.
 use mathlib.Core.Path.{_≡_, ap, sym, _∙_}
 use mathlib.Core.List.{List, [], _∷_, _++_}
-use Prim.Native.Nat.{ℕ, _*_, _≤_, _<_}
+use Prim.Native.Nat.{ℕ, _*_, _≤_}
 use native.Mathlib.Omega.{arith}
-use lib.Dec.{eqb, leb, ltb}
+use lib.Dec.{eqb}
 use lib.ListN.{length, getD, drop, length-append}
-use borrow.Author.Tests.{leb-true, ltb-true}
 use Rattle.rules.specs.Words.{countIn}
 use Rattle.rules.specs.Case.{Case, releaseCount}
-use Rattle.rules.specs.Refusals.{noFault, caseFault, roomFault, slotFault, replayFault, runningFault, Accepted}
 use Rattle.rules.specs.Replay.{records, recordBy, numbers, marked}
 use Rattle.rules.specs.Calls.{roomAfter}
 use Rattle.lists.specs.Lists.{tab-long}
-use Rattle.legal.specs.Legal.{legal, next-clear, unless-clear}
 use Rattle.bridge.specs.Notes.{numbers-long, marked-in}
-use Rattle.checks.specs.Needs.{Sound}
-
-pub sound : (c : Case) → Accepted c → Sound (c .table)
-sound c ok = let g = legal c ok in record { few = g .tasks-few; good = g .good }
-
-pub replay-clear : (c : Case) (room : ℕ) → replayFault c room .number ≡ 0 → Accepted c × (releaseCount (c .trace) * 3 ≤ room)
-unfolding replayFault Accepted roomFault
-replay-clear c room e =
-    let a = next-clear (caseFault c) _ e in
-    let b = next-clear (roomFault (releaseCount (c .trace) * 3) room) noFault (a .1) in
-    (a .0, leb-true _ _ (unless-clear (leb (releaseCount (c .trace) * 3) room) 13 0 (omega arith) (b .0)))
-
-pub running-clear : (c : Case) (s : ℕ) → runningFault c s .number ≡ 0 → Accepted c × (s < c .end)
-unfolding runningFault Accepted slotFault
-running-clear c s e =
-    let a = next-clear (caseFault c) _ e in
-    let b = next-clear (slotFault (c .end) s) noFault (a .1) in
-    (a .0, ltb-true _ _ (unless-clear (ltb s (c .end)) 15 0 (omega arith) (b .0)))
 
 module _ (c : Case) (room out : List ℕ) (o : out ≡ roomAfter c room) where
   pub still-fits : releaseCount (c .trace) * 3 ≤ length out

@@ -8,8 +8,7 @@ ghost use lib.ListN.{length, getD, drop};
 ghost use Rattle.rules.specs.Words.{pick, tab, countIn};
 ghost use Rattle.rules.specs.Case.{caseOf, releaseCount};
 ghost use Rattle.rules.specs.Refusals.{Accepted};
-ghost use Rattle.rules.specs.Answers.{replayedAs, runningAs};
-ghost use Rattle.rules.specs.Calls.{roomAfter, replayAnswer, replayRoom, runningAnswer};
+ghost use Rattle.rules.specs.Calls.{roomAfter, ReplayPromise, RunningPromise};
 ghost use Rattle.rules.specs.Slot.{setNumber};
 ghost use Rattle.rules.specs.Replay.{fresh, numbers};
 ghost use Rattle.counts.specs.Needs.{Counts};
@@ -336,7 +335,7 @@ pub fn replay(
     trace: &[u32],
     out: &mut [u32],
 ) -> Replayed
-    ensures { λ r. ⌜ (replayedAs r ≡ replayAnswer (caseOf procs policy (now (table .entry)) end (now (trace .entry))) (now (out .entry))) × (now (out .exit) ≡ replayRoom (caseOf procs policy (now (table .entry)) end (now (trace .entry))) (now (out .entry))) ⌝ }
+    ensures { λ r. ⌜ ReplayPromise (caseOf procs policy (now (table .entry)) end (now (trace .entry))) (now (out .entry)) r (now (out .exit)) ⌝ }
 {
     let room = out.len();
     let f = checks::replay_fault(procs, policy, table, end, trace, room);
@@ -382,7 +381,7 @@ pub fn running(
     trace: &[u32],
     slot: u32,
 ) -> Running
-    ensures { λ r. ⌜ runningAs r ≡ runningAnswer (caseOf procs policy (now (table .entry)) end (now (trace .entry))) slot ⌝ }
+    ensures { λ r. ⌜ RunningPromise (caseOf procs policy (now (table .entry)) end (now (trace .entry))) slot r ⌝ }
 {
     let f = checks::running_fault(procs, policy, table, end, trace, slot);
     let number = f.number;

@@ -1,43 +1,26 @@
 -- What an accepted case gives (document 01, "Refusals by number"): from `caseFault`, which finds nothing, each test as a fact, and the
--- order and separation of any two releases. `legal` is how every theorem about accepted cases, and the replay, comes by these facts.
+-- order and separation of any two releases. `legal` is how every theorem about accepted cases, and the replay, comes by these facts;
+-- what it is to pass one test is said in Passing.
 use mathlib.Core.Path.{_≡_, refl, ap, sym, _∙_}
-use mathlib.Core.Bool.{Bool, true, false, _&&_, _||_, false≢true}
+use mathlib.Core.Bool.{Bool, true, false, _&&_, _||_}
 use mathlib.Core.Logic.{_⊎_, inl, inr}
-use mathlib.Core.List.{List}
-use Prim.Native.Nat.{ℕ, zero, suc, _+_, _*_, _-_, _%_, _≤_, _<_}
+use mathlib.Core.List.{List, [], _∷_}
+use Prim.Native.Nat.{ℕ, zero, suc, _+_, _*_, _-_, _≤_, _<_}
 use native.Mathlib.Nat.{eq-or-lt-of-le}
 use native.Mathlib.Omega.{arith}
 use lib.ListN.{length}
-use lib.Dec.{eqb, ltb, leb}
+use lib.Dec.{eqb, ltb}
 use borrow.Author.Tests.{eqb-true, eqb-false, leb-true, ltb-true}
-use Rattle.rules.specs.declared.Fault.{Fault}
-use Rattle.lists.specs.Tests.{and-left, and-right, or-cases}
 use Rattle.rules.specs.Words.{pick}
 use Rattle.rules.specs.Case.{Case, taskCount, period, execution, deadline, releaseCount, timeOf, nameOf}
-use Rattle.rules.specs.Refusals.{unless, orNext, firstOf, procsFault, policyFault, tableFault, taskStands, taskFault, tasksFault, endFault, traceFault, lastBefore, laterThan, inOrder, apart, releaseFault, releasesFault, caseFault, Accepted}
-use Rattle.rules.specs.Limits.{maxEnd, taskWidth, releaseWidth}
-
--- ---- tests that find nothing
-pub unless-clear : (b : Bool) (n p : ℕ) → 0 < n → unless b n p .number ≡ 0 → b ≡ true
-unless-clear true n p h e = refl
-unless-clear false n p h e = absurd (omega arith)
-
-pub next-clear : (f g : Fault) → orNext f g .number ≡ 0 → (f .number ≡ 0) × (g .number ≡ 0)
-unfolding orNext
-next-clear f g = go (eqb (f .number) 0) refl
-  where
-    go : (b : Bool) → eqb (f .number) 0 ≡ b → pick b g f .number ≡ 0 → (f .number ≡ 0) × (g .number ≡ 0)
-    go true q e = (eqb-true _ _ q, e)
-    go false q e = absurd (eqb-false _ _ q e)
-
-pub firstOf-clear : (f : ℕ → Fault) (n : ℕ) → firstOf f n .number ≡ 0 → (j : ℕ) → j < n → f j .number ≡ 0
-unfolding firstOf
-firstOf-clear f zero e j h = absurd (omega arith)
-firstOf-clear f (suc n) e j h = go (firstOf-clear f n (next-clear (firstOf f n) (f n) e .0) j) (eq-or-lt-of-le {n = j} {m = n} (omega arith))
-  where
-    go : (j < n → f j .number ≡ 0) → (j ≡ n) ⊎ (j < n) → f j .number ≡ 0
-    go ih (inl q) = rw q (next-clear (firstOf f n) (f n) e .1)
-    go ih (inr q) = ih q
+use Rattle.rules.specs.Policies.{maxPolicy}
+use Rattle.rules.specs.Refusals.{procsFault, policyFault, tableFault, tasksFault, endFault, traceFault, lastBefore, laterThan, inOrder, apart, releasesFault, roomFault, slotFault, caseTests, caseFault, countsTests, countsFault, replayFault, runningFault, Accepted}
+use Rattle.rules.specs.Limits.{maxProcs, maxTasks, maxEnd, maxReleases, taskWidth, releaseWidth, recordWidth}
+use Rattle.lists.specs.Tests.{and-left, or-cases}
+use Rattle.legal.specs.Firsts.{row-clear}
+use Rattle.legal.specs.Passing.{Procs, Sound, sound-table, procs-clear, policy-clear, table-clear, tasks-clear, end-clear, trace-clear, Released, releases-clear, room-clear, slot-clear}
+pub use Rattle.legal.specs.Firsts.{unless-clear, next-clear}
+pub use Rattle.legal.specs.Passing.{Good}
 
 -- ---- the order of any two releases, from that of neighbours
 later-le : (t₀ n₀ t n : ℕ) → laterThan t₀ n₀ t n ≡ true → t₀ ≤ t
@@ -76,102 +59,100 @@ apart-le zero T t x e h = absurd (omega arith)
 apart-le (suc u) T t x e h = omega (arith, leb-true (u + T) t e)
 
 -- ---- an accepted case
-pub record Good (T C D : ℕ) : Type 0 where
-  pub some : 1 ≤ C
-  pub fits : C ≤ D
-  pub within : D ≤ T
-  pub small : T ≤ 10000
-
 pub record Legal (c : Case) : Type 0 where
   pub procs-some : 1 ≤ c .procs
-  pub procs-few : c .procs ≤ 32
-  pub policy-known : c .policy ≤ 1
+  pub procs-few : c .procs ≤ maxProcs
+  pub policy-known : c .policy ≤ maxPolicy
   pub threes : length (c .table) ≡ taskCount (c .table) * taskWidth
   pub tasks-some : 1 ≤ taskCount (c .table)
-  pub tasks-few : taskCount (c .table) ≤ 32
+  pub tasks-few : taskCount (c .table) ≤ maxTasks
   pub good : (i : ℕ) → i < taskCount (c .table) → Good (period (c .table) i) (execution (c .table) i) (deadline (c .table) i)
-  pub end-small : c .end ≤ 100000
+  pub end-small : c .end ≤ maxEnd
   pub twos : length (c .trace) ≡ releaseCount (c .trace) * releaseWidth
-  pub releases-few : releaseCount (c .trace) ≤ 2000
+  pub releases-few : releaseCount (c .trace) ≤ maxReleases
   pub named : (j : ℕ) → j < releaseCount (c .trace) → (1 ≤ nameOf (c .trace) j) × (nameOf (c .trace) j ≤ taskCount (c .table))
   pub before-end : (j : ℕ) → j < releaseCount (c .trace) → timeOf (c .trace) j < c .end
   pub in-order : (j k : ℕ) → j ≤ k → k < releaseCount (c .trace) → timeOf (c .trace) j ≤ timeOf (c .trace) k
   pub separate : (j k : ℕ) → j < k → k < releaseCount (c .trace) → nameOf (c .trace) j ≡ nameOf (c .trace) k
       → timeOf (c .trace) j + period (c .table) (nameOf (c .trace) k - 1) ≤ timeOf (c .trace) k
 
-module _ (c : Case) where
-  pub clear-good : (i : ℕ) → taskFault (c .table) i .number ≡ 0 → Good (period (c .table) i) (execution (c .table) i) (deadline (c .table) i)
-  unfolding taskFault
-  clear-good i e =
-      let T = period (c .table) i in
-      let C = execution (c .table) i in
-      let D = deadline (c .table) i in
-      let q : taskStands T C D ≡ true = unless-clear _ 6 (suc i) (omega arith) e in
-      let q1 : (leb 1 C && leb C D && leb D T) ≡ true = and-left _ (leb T 10000) q in
-      let q2 : (leb 1 C && leb C D) ≡ true = and-left _ (leb D T) q1 in
-      record {
-        some = leb-true 1 C (and-left _ (leb C D) q2);
-        fits = leb-true C D (and-right (leb 1 C) (leb C D) q2);
-        within = leb-true D T (and-right (leb 1 C && leb C D) (leb D T) q1);
-        small = leb-true T 10000 (and-right (leb 1 C && leb C D && leb D T) (leb T 10000) q);
-      }
+-- an accepted case passes each test of its row
+pub record Passes (c : Case) : Type 0 where
+  pub by-procs : procsFault (c .procs) .number ≡ 0
+  pub by-policy : policyFault (c .policy) .number ≡ 0
+  pub by-table : tableFault (c .table) .number ≡ 0
+  pub by-tasks : tasksFault (c .table) .number ≡ 0
+  pub by-end : endFault (c .end) .number ≡ 0
+  pub by-trace : traceFault (c .trace) .number ≡ 0
+  pub by-releases : releasesFault (c .table) (c .end) (c .trace) .number ≡ 0
 
-  -- the four tests of a release
-  pub record Clear (j : ℕ) : Type 0 where
-    pub name : (leb 1 (nameOf (c .trace) j) && leb (nameOf (c .trace) j) (taskCount (c .table))) ≡ true
-    pub time : ltb (timeOf (c .trace) j) (c .end) ≡ true
-    pub order : inOrder (c .trace) j ≡ true
-    pub since : apart (lastBefore (c .trace) j (nameOf (c .trace) j)) (period (c .table) (nameOf (c .trace) j - 1)) (timeOf (c .trace) j) ≡ true
+pub case-passes : (c : Case) → Accepted c → Passes c
+unfolding Accepted caseFault
+case-passes c ok =
+    let w = row-clear (caseTests c) ok in
+    record {
+      by-procs = w .0;
+      by-policy = w .1 .0;
+      by-table = w .1 .1 .0;
+      by-tasks = w .1 .1 .1 .0;
+      by-end = w .1 .1 .1 .1 .0;
+      by-trace = w .1 .1 .1 .1 .1 .0;
+      by-releases = w .1 .1 .1 .1 .1 .1 .0;
+    }
 
-  pub clear-release : (j : ℕ) → releaseFault (c .table) (c .end) (c .trace) j .number ≡ 0 → Clear j
-  unfolding releaseFault
-  clear-release j e =
-      let a = next-clear (unless (leb 1 (nameOf (c .trace) j) && leb (nameOf (c .trace) j) (taskCount (c .table))) 8 (suc j)) _ e in
-      let b = next-clear (unless (ltb (timeOf (c .trace) j) (c .end)) 11 (suc j)) _ (a .1) in
-      let d = next-clear (unless (inOrder (c .trace) j) 9 (suc j)) _ (b .1) in
-      let f = next-clear (unless (apart (lastBefore (c .trace) j (nameOf (c .trace) j)) (period (c .table) (nameOf (c .trace) j - 1)) (timeOf (c .trace) j)) 10 (suc j)) _ (d .1) in
-      record {
-        name = unless-clear _ 8 (suc j) (omega arith) (a .0);
-        time = unless-clear _ 11 (suc j) (omega arith) (b .0);
-        order = unless-clear _ 9 (suc j) (omega arith) (d .0);
-        since = unless-clear _ 10 (suc j) (omega arith) (f .0);
-      }
+pub legal : (c : Case) → Accepted c → Legal c
+legal c ok =
+    let p = case-passes c ok in
+    let m = procs-clear (c .procs) (p .by-procs) in
+    let t = table-clear (c .table) (p .by-table) in
+    let s = trace-clear (c .trace) (p .by-trace) in
+    let n = releaseCount (c .trace) in
+    let r : (j : ℕ) → j < n → Released (c .table) (c .end) (c .trace) j = releases-clear (c .table) (c .end) (c .trace) (p .by-releases) in
+    let o : (j : ℕ) → j < n → inOrder (c .trace) j ≡ true = λ j h. r j h .order in
+    record {
+      procs-some = m .some;
+      procs-few = m .few;
+      policy-known = policy-clear (c .policy) (p .by-policy);
+      threes = t .threes;
+      tasks-some = t .some;
+      tasks-few = t .few;
+      good = tasks-clear (c .table) (p .by-tasks);
+      end-small = end-clear (c .end) (p .by-end);
+      twos = s .twos;
+      releases-few = s .few;
+      named = λ j h. (r j h .some, r j h .known);
+      before-end = λ j h. r j h .soon;
+      in-order = sorted (c .trace) n o;
+      separate = λ j i h l q. apart-le _ _ _ _ (r i l .since) (last-late (c .trace) n o i j (nameOf (c .trace) i) h (omega arith) q);
+    }
 
-  pub legal : Accepted c → Legal c
-  unfolding Accepted caseFault procsFault policyFault tableFault endFault traceFault
-  legal e =
-      let m = c .procs in
-      let n = releaseCount (c .trace) in
-      let k = taskCount (c .table) in
-      let f1 = next-clear (procsFault m) _ e in
-      let f2 = next-clear (policyFault (c .policy)) _ (f1 .1) in
-      let f3 = next-clear (tableFault (c .table)) _ (f2 .1) in
-      let f4 = next-clear (tasksFault (c .table)) _ (f3 .1) in
-      let f5 = next-clear (endFault (c .end)) _ (f4 .1) in
-      let f6 = next-clear (traceFault (c .trace)) _ (f5 .1) in
-      let f7 = next-clear (releasesFault (c .table) (c .end) (c .trace)) _ (f6 .1) in
-      let p : (leb 1 m && leb m 32) ≡ true = unless-clear _ 4 0 (omega arith) (f1 .0) in
-      let q : (eqb (length (c .table) % 3) 0 && leb 1 k && leb k 32) ≡ true = unless-clear _ 5 0 (omega arith) (f3 .0) in
-      let q1 : (eqb (length (c .table) % 3) 0 && leb 1 k) ≡ true = and-left _ (leb k 32) q in
-      let x : (eqb (length (c .trace) % 2) 0 && leb n 2000) ≡ true = unless-clear _ 12 0 (omega arith) (f6 .0) in
-      let r : (j : ℕ) → j < n → Clear j = λ j h. clear-release j (firstOf-clear (releaseFault (c .table) (c .end) (c .trace)) n (f7 .0) j h) in
-      let o : (j : ℕ) → j < n → inOrder (c .trace) j ≡ true = λ j h. r j h .order in
-      record {
-        procs-some = leb-true 1 m (and-left (leb 1 m) _ p);
-        procs-few = leb-true m 32 (and-right (leb 1 m) _ p);
-        policy-known = leb-true _ 1 (unless-clear _ 14 0 (omega arith) (f2 .0));
-        threes = omega (arith, eqb-true (length (c .table) % 3) 0 (and-left _ (leb 1 k) q1));
-        tasks-some = leb-true 1 k (and-right (eqb (length (c .table) % 3) 0) (leb 1 k) q1);
-        tasks-few = leb-true k 32 (and-right (eqb (length (c .table) % 3) 0 && leb 1 k) (leb k 32) q);
-        good = λ i h. clear-good i (firstOf-clear (taskFault (c .table)) k (f4 .0) i h);
-        end-small = leb-true _ maxEnd (unless-clear _ 7 0 (omega arith) (f5 .0));
-        twos = omega (arith, eqb-true (length (c .trace) % 2) 0 (and-left _ (leb n 2000) x));
-        releases-few = leb-true n 2000 (and-right (eqb (length (c .trace) % 2) 0) (leb n 2000) x);
-        named = λ j h. (
-          leb-true 1 _ (and-left (leb 1 (nameOf (c .trace) j)) _ (r j h .name)),
-          leb-true _ k (and-right (leb 1 (nameOf (c .trace) j)) _ (r j h .name)),
-        );
-        before-end = λ j h. ltb-true _ _ (r j h .time);
-        in-order = sorted (c .trace) n o;
-        separate = λ j i h l q. apart-le _ _ _ _ (r i l .since) (last-late (c .trace) n o i j (nameOf (c .trace) i) h (omega arith) q);
-      }
+-- the processors of an accepted case, and its table
+pub accepted-procs : (c : Case) → Accepted c → Procs (c .procs)
+accepted-procs c ok = procs-clear (c .procs) (case-passes c ok .by-procs)
+
+pub accepted-table : (c : Case) → Accepted c → Sound (c .table)
+accepted-table c ok = let p = case-passes c ok in sound-table (c .table) (p .by-table) (p .by-tasks)
+
+-- ---- what the checks of each call give where they find nothing
+pub record CountsClear (m : ℕ) (ts : List ℕ) (room : ℕ) : Type 0 where
+  pub procs : Procs m
+  pub sound : Sound ts
+  pub roomy : taskCount ts ≤ room
+
+pub counts-clear : (m : ℕ) (ts : List ℕ) (room : ℕ) → countsFault m ts room .number ≡ 0 → CountsClear m ts room
+unfolding countsFault
+counts-clear m ts room e =
+    let w = row-clear (countsTests m ts room) e in
+    record { procs = procs-clear m (w .0); sound = sound-table ts (w .1 .0) (w .1 .1 .0); roomy = room-clear (taskCount ts) room (w .1 .1 .1 .0) }
+
+pub replay-clear : (c : Case) (room : ℕ) → replayFault c room .number ≡ 0 → Accepted c × (releaseCount (c .trace) * recordWidth ≤ room)
+unfolding replayFault Accepted
+replay-clear c room e =
+    let w = row-clear (caseFault c ∷ roomFault (releaseCount (c .trace) * recordWidth) room ∷ []) e in
+    (w .0, room-clear _ room (w .1 .0))
+
+pub running-clear : (c : Case) (s : ℕ) → runningFault c s .number ≡ 0 → Accepted c × (s < c .end)
+unfolding runningFault Accepted
+running-clear c s e =
+    let w = row-clear (caseFault c ∷ slotFault (c .end) s ∷ []) e in
+    (w .0, slot-clear (c .end) s (w .1 .0))

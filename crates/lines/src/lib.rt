@@ -98,7 +98,7 @@ fn no_head() -> Head
 {
     Head {
         procs: 0,
-        policy: 0,
+        policy: policies::EDF,
         end: 0,
     }
 }

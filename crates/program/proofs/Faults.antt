@@ -17,7 +17,7 @@ use Rattle.rules.specs.declared.Fault.{Fault}
 use Rattle.rules.specs.declared.Taken.{Taken}
 use Rattle.rules.specs.declared.Taken.the-variants as Taken·
 use Rattle.legal.specs.Settled.{no-refusal}
-use Rattle.report.specs.Lines.{runningLine}
+use Rattle.prints.specs.Lines.{runningLine}
 use Rattle.program.specs.Prints.{caseSays, textSays}
 use Rattle.program.specs.Asks.{askedFault, wishFault}
 use Rattle.program.specs.declared.Wish.{Wish}

@@ -1,160 +1,25 @@
 // Reads a case from standard input and prints what is asked of it: what is printed is put into bytes first and then written whole.
 // How it ended is told on descriptor 3 once all else is written (`tell`), since a program of this language has no exit status.
 ghost use mathlib.Core.Path.{_≡_};
-ghost use Prim.Native.Nat.{ℕ, _+_, _*_, _≤_, _<_};
+ghost use Prim.Native.Nat.{_≤_};
 ghost use lib.ListN.{length};
-ghost use Rattle.rules.specs.Case.{caseOf, taskCount, releaseCount};
-ghost use Rattle.rules.specs.Counts.{freeCounts};
-ghost use Rattle.rules.specs.Refusals.{countsFault, Accepted};
+ghost use Rattle.rules.specs.Case.{caseOf};
+ghost use Rattle.rules.specs.Refusals.{Accepted};
 ghost use Rattle.rules.specs.Answers.{takenAs};
-ghost use Rattle.rules.specs.Writer.{caseText};
-ghost use Rattle.rules.specs.Report.{report};
-ghost use Rattle.report.specs.Lines.{lineRoom, Printed};
+ghost use Rattle.prints.specs.Lines.{lineRoom, Printed};
+ghost use Rattle.report.specs.Cases.{refusalText, printRoom};
 ghost use Rattle.program.specs.Asks.{askedOf, wordAsks, slotAsks, isQuiet, oneAsks, twoAsk, threeAsk, wordsAsk, isKnown, askedFault, wishFault};
-ghost use Rattle.program.specs.Prints.{linesText, jobText, countText, slotText, refusalText, caseSays, textSays, Listed, jobRoom, printRoom, Shown, Stands};
+ghost use Rattle.program.specs.Prints.{caseSays, textSays};
 use libc::STDERR_FILENO;
 use libc::STDIN_FILENO;
 use libc::STDOUT_FILENO;
-use rules::Counted;
+use report::put_free_counts;
+use report::put_report;
+use report::put_slot;
+use report::put_text;
 use rules::Fault;
 use rules::Num;
-use rules::Replayed;
-use rules::Running;
 use rules::Taken;
-use rules::Written;
-
-// ---- what is printed of a case
-
-// Writes the job line of release j.
-fn put_release(out: &mut [u8], table: &[u32], trace: &[u32], records: &[u32], j: usize) -> usize
-    requires { ⌜ lineRoom ≤ length (now out) ⌝ }
-    requires { ⌜ Stands (now table) (now trace) (now records) j ⌝ }
-    ensures { λ r. ⌜ Printed (jobText (now (table .entry)) (now (trace .entry)) (now (records .entry)) j) (now (out .entry)) (now (out .exit)) r ⌝ }
-{
-    let time = trace[j * 2];
-    let task = trace[j * 2 + 1];
-    let place = task as usize - 1;
-    let due = time + table[place * 3 + 2];
-    let verdict = records[j * 3];
-    let finish = records[j * 3 + 1];
-    let demotion = records[j * 3 + 2];
-    report::put_job(out, time, task, due, verdict, finish, demotion)
-}
-
-// Writes the job lines, in trace order, from index `at` on.
-fn put_jobs(out: &mut [u8], at: usize, table: &[u32], trace: &[u32], records: &[u32]) -> usize
-    requires { ⌜ at + releaseCount (now trace) * jobRoom + lineRoom ≤ length (now out) ⌝ }
-    requires { ⌜ ((j : ℕ) → j < releaseCount (now trace) → Stands (now table) (now trace) (now records) j) ⌝ }
-    ensures { λ r. ⌜ Listed (jobText (now (table .entry)) (now (trace .entry)) (now (records .entry))) jobRoom at (releaseCount (now (trace .entry))) (now (out .entry)) (now (out .exit)) r ⌝ }
-{
-    let n = trace.len() / 2;
-    let mut end = at;
-    let mut j: usize = 0;
-    while j < n {
-        let length = put_release(&mut out[end..], table, trace, records, j);
-        end = end + length;
-        j += 1;
-    }
-    end
-}
-
-// Writes what the replay of a case says: its run line, its job lines and its total line.
-fn put_report(
-    out: &mut [u8],
-    procs: u32,
-    policy: u32,
-    table: &[u32],
-    end: u32,
-    trace: &[u32],
-) -> usize
-    requires { ⌜ printRoom ≤ length (now out) ⌝ }
-    requires { ⌜ Accepted (caseOf procs policy (now table) end (now trace)) ⌝ }
-    ensures { λ r. ⌜ Shown (report (caseOf procs policy (now (table .entry)) end (now (trace .entry)))) (now (out .entry)) (now (out .exit)) r ⌝ }
-{
-    let mut records = [0u32; 6000];
-    let replayed = engine::replay(procs, policy, table, end, trace, &mut records);
-    match replayed {
-        Replayed::Refused { number, place } => report::put_refused(out, number, place),
-        Replayed::Judged { met, missed, open } => {
-            let tasks = (table.len() / 3) as u32;
-            let releases = (trace.len() / 2) as u32;
-            let at = report::put_run(out, policy, procs, tasks, end);
-            let last = put_jobs(out, at, table, trace, &records);
-            let length = report::put_total(&mut out[last..], releases, met, missed, open);
-            last + length
-        }
-    }
-}
-
-// Writes a line for each of the first n free counts, in table order.
-fn put_count_lines(out: &mut [u8], free: &[u32], n: usize) -> usize
-    requires { ⌜ (n ≤ 32) × (n ≤ length (now free)) × (n * lineRoom ≤ length (now out)) ⌝ }
-    ensures { λ r. ⌜ Listed (countText (now (free .entry))) lineRoom 0 n (now (out .entry)) (now (out .exit)) r ⌝ }
-{
-    let mut end: usize = 0;
-    let mut i: usize = 0;
-    while i < n {
-        let length = report::put_count(&mut out[end..], i as u32 + 1, free[i]);
-        end = end + length;
-        i += 1;
-    }
-    end
-}
-
-// Writes the free count of each task.
-fn put_free_counts(out: &mut [u8], procs: u32, table: &[u32]) -> usize
-    requires { ⌜ printRoom ≤ length (now out) ⌝ }
-    requires { ⌜ countsFault procs (now table) 32 .number ≡ 0 ⌝ }
-    ensures { λ r. ⌜ Shown (linesText (countText (freeCounts procs (now (table .entry)))) (taskCount (now (table .entry)))) (now (out .entry)) (now (out .exit)) r ⌝ }
-{
-    let mut free = [0u32; 32];
-    let counted = counts::counts(procs, table, &mut free);
-    match counted {
-        Counted::Refused { number, place } => report::put_refused(out, number, place),
-        Counted::Counts { tasks } => put_count_lines(out, &free, tasks),
-    }
-}
-
-// Writes which tasks run in a slot.
-fn put_slot(
-    out: &mut [u8],
-    procs: u32,
-    policy: u32,
-    table: &[u32],
-    end: u32,
-    trace: &[u32],
-    slot: u32,
-) -> usize
-    requires { ⌜ printRoom ≤ length (now out) ⌝ }
-    requires { ⌜ Accepted (caseOf procs policy (now table) end (now trace)) ⌝ }
-    ensures { λ r. ⌜ Shown (slotText (caseOf procs policy (now (table .entry)) end (now (trace .entry))) slot) (now (out .entry)) (now (out .exit)) r ⌝ }
-{
-    let ran = engine::running(procs, policy, table, end, trace, slot);
-    match ran {
-        Running::Refused { number, place } => report::put_refused(out, number, place),
-        Running::Ran { set } => report::put_running(out, slot, set),
-    }
-}
-
-// Writes the text of a case.
-fn put_text(
-    out: &mut [u8],
-    procs: u32,
-    policy: u32,
-    table: &[u32],
-    end: u32,
-    trace: &[u32],
-) -> usize
-    requires { ⌜ printRoom ≤ length (now out) ⌝ }
-    requires { ⌜ Accepted (caseOf procs policy (now table) end (now trace)) ⌝ }
-    ensures { λ r. ⌜ Shown (caseText (caseOf procs policy (now (table .entry)) end (now (trace .entry)))) (now (out .entry)) (now (out .exit)) r ⌝ }
-{
-    let written = writer::write(procs, policy, table, end, trace, out);
-    match written {
-        Written::Refused { number, place } => report::put_refused(out, number, place),
-        Written::Text { length } => length,
-    }
-}
 
 // ---- what is asked
 
@@ -171,10 +36,10 @@ pub enum Wish {
 // Writes the line of the reader's refusal.
 fn put_refusal(out: &mut [u8], taken: Taken) -> usize
     requires { ⌜ lineRoom ≤ length (now out) ⌝ }
-    ensures { λ r. ⌜ Printed (refusalText (takenAs taken)) (now (out .entry)) (now (out .exit)) r ⌝ }
+    ensures { λ r. ⌜ Printed lineRoom (refusalText (takenAs taken)) (now (out .entry)) (now (out .exit)) r ⌝ }
 {
     match taken {
-        Taken::Refused { number, place } => report::put_refused(out, number, place),
+        Taken::Refused { number, place } => prints::put_refused(out, number, place),
         Taken::Read {
             procs: _,
             policy: _,
@@ -197,7 +62,7 @@ fn put_wish(
 ) -> usize
     requires { ⌜ printRoom ≤ length (now out) ⌝ }
     requires { ⌜ Accepted (caseOf procs policy (now table) end (now trace)) ⌝ }
-    ensures { λ r. ⌜ Shown (caseSays wish (caseOf procs policy (now (table .entry)) end (now (trace .entry)))) (now (out .entry)) (now (out .exit)) r ⌝ }
+    ensures { λ r. ⌜ Printed printRoom (caseSays wish (caseOf procs policy (now (table .entry)) end (now (trace .entry)))) (now (out .entry)) (now (out .exit)) r ⌝ }
 {
     match wish {
         Wish::Replay => put_report(out, procs, policy, table, end, trace),
@@ -212,7 +77,7 @@ fn put_wish(
 // Writes what a wish asks of the case of a text. A refused case is parted from an accepted one before any line is written.
 fn answer(wish: Wish, text: &[u8], out: &mut [u8]) -> usize
     requires { ⌜ printRoom ≤ length (now out) ⌝ }
-    ensures { λ r. ⌜ Shown (textSays wish (now (text .entry))) (now (out .entry)) (now (out .exit)) r ⌝ }
+    ensures { λ r. ⌜ Printed printRoom (textSays wish (now (text .entry))) (now (out .entry)) (now (out .exit)) r ⌝ }
 {
     let mut rows = [0u32; 96];
     let mut times = [0u32; 4000];
@@ -250,19 +115,19 @@ fn asking(wish: Wish, quiet: bool) -> Asked
 fn alone(word: &[u8]) -> Wish
     ensures { λ r. ⌜ r ≡ wordAsks (now (word .entry)) ⌝ }
 {
-    if scan::same_bytes(word, b"counts") {
+    if words::same_bytes(word, b"counts") {
         return Wish::Counts;
     }
-    if scan::same_bytes(word, b"write") {
+    if words::same_bytes(word, b"write") {
         return Wish::Write;
     }
-    if scan::same_bytes(word, b"help") {
+    if words::same_bytes(word, b"help") {
         return Wish::Help;
     }
-    if scan::same_bytes(word, b"-h") {
+    if words::same_bytes(word, b"-h") {
         return Wish::Help;
     }
-    if scan::same_bytes(word, b"--help") {
+    if words::same_bytes(word, b"--help") {
         return Wish::Help;
     }
     Wish::Unknown
@@ -275,7 +140,7 @@ fn named_slot(word: &[u8], number: &[u8]) -> Wish
     let Num::Value { value } = scan::number(number) else {
         return Wish::Unknown;
     };
-    if scan::same_bytes(word, b"slot") {
+    if words::same_bytes(word, b"slot") {
         return Wish::Slot { slot: value };
     }
     Wish::Unknown
@@ -285,7 +150,7 @@ fn named_slot(word: &[u8], number: &[u8]) -> Wish
 fn is_quiet(word: &[u8]) -> bool
     ensures { λ r. ⌜ r ≡ isQuiet (now (word .entry)) ⌝ }
 {
-    scan::same_bytes(word, b"-q")
+    words::same_bytes(word, b"-q")
 }
 
 // What one word asks.
@@ -355,7 +220,7 @@ fn is_known(word: &[u8]) -> bool
     if is_quiet(word) {
         return true;
     }
-    if scan::same_bytes(word, b"slot") {
+    if words::same_bytes(word, b"slot") {
         return true;
     }
     let Num::Bad = scan::number(word) else {
@@ -374,7 +239,7 @@ fn asked_fault(wish: Wish, end: u32) -> Fault
     ensures { λ r. ⌜ r ≡ askedFault wish end ⌝ }
 {
     match wish {
-        Wish::Slot { slot } => checks::slot_fault(end, slot),
+        Wish::Slot { slot } => faults::slot_fault(end, slot),
         _ => Fault {
             number: 0,
             place: 0,

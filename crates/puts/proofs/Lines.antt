@@ -1,15 +1,12 @@
 -- Fields and lines: one more field, fields and the end of a line, and how many bytes numbers take.
 use mathlib.Core.Path.{_≡_, refl, sym, ap, _∙_}
-use mathlib.Core.Bool.{Bool, true, false}
 use mathlib.Core.List.{List, [], _∷_, _++_, append-assoc, append-nil}
 use Prim.Native.Nat.{ℕ, zero, suc, _+_, _*_, _≤_, _<_}
 use native.Mathlib.Numerals.{add-one}
 use native.Mathlib.Omega.{arith}
-use lib.Dec.{eqb}
 use lib.ListN.{length, take, getD, length-append}
 use lib.Seq.{take-suc}
-use Rattle.rules.specs.Words.{pick}
-use Rattle.rules.specs.Text.{digitsOf, policyName, edfWord, edfCfWord}
+use Rattle.rules.specs.Text.{digitsOf}
 use Rattle.rules.specs.Writer.{moreFields, lineText}
 use Rattle.texts.specs.Digits.{at-most-ten}
 use Rattle.puts.specs.Fields.{fieldsText, numberFields}
@@ -58,11 +55,3 @@ unfolding fieldsText
 numbers-le b (v ∷ vs) zero h = omega (arith, length-append (digitsOf v) (numberFields b vs))
 numbers-le b (v ∷ vs) (suc i) h = omega (arith, numbers-le b vs i (omega arith), length-append (digitsOf v) (numberFields b vs), length-append (digitsOf v) (numberFields b (take i vs)))
 numbers-le b [] i h = absurd (omega arith)
-
-pub policy-room : (p : ℕ) → length (policyName p) ≤ 6
-unfolding policyName
-policy-room p = go (eqb p 0)
-  where
-    go : (b : Bool) → length (pick b edfWord edfCfWord) ≤ 6
-    go true = omega arith
-    go false = omega arith

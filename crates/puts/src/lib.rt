@@ -1,9 +1,8 @@
 // Bytes, decimal numbers, words and lines, written into lent bytes from an index on. Each writer returns the index behind what it wrote.
 ghost use mathlib.Core.Path.{_≡_};
-ghost use mathlib.Core.List.{_∷_};
 ghost use Prim.Native.Nat.{_+_, _<_, _≤_};
 ghost use lib.ListN.{length};
-ghost use Rattle.rules.specs.Text.{digitsOf, policyName};
+ghost use Rattle.rules.specs.Text.{digitsOf};
 ghost use Rattle.puts.specs.Laid.{Laid};
 ghost use Rattle.puts.specs.Fields.{numberFields, numberLine, wordOf};
 
@@ -132,18 +131,6 @@ pub fn put_word(out: &mut [u8], word: u32) -> usize
         8 => put_bytes(out, 0, b"refused"),
         9 => put_bytes(out, 0, b"count"),
         _ => put_bytes(out, 0, b"running"),
-    }
-}
-
-// Writes the byte `between` and the word of a policy, chosen by its number.
-pub fn put_policy(out: &mut [u8], at: usize, between: u8, policy: u32) -> usize
-    requires { ⌜ at + 1 + length (policyName policy) ≤ length (now out) ⌝ }
-    ensures { λ r. ⌜ Laid at (between ∷ policyName policy) (now (out .entry)) (now (out .exit)) r ⌝ }
-{
-    out[at] = between;
-    match policy {
-        0 => put_bytes(out, at + 1, b"edf"),
-        _ => put_bytes(out, at + 1, b"edf-cf"),
     }
 }
 

@@ -11,9 +11,12 @@ use Rattle.rules.specs.Words.{pick}
 use Rattle.rules.specs.Limits.{maxTasks, maxReleases, maxText, taskWidth, releaseWidth}
 use Rattle.rules.specs.Case.{Case}
 use Rattle.rules.specs.Refusals.{noFault, unless, orNext, roomFault, caseFault}
-use Rattle.rules.specs.Answers.{Answer, result, refusal, settled, kept}
+use Rattle.rules.specs.Answers.{refusal, settled, kept, takenAs}
+use Rattle.rules.specs.Calls.{ReadPromise}
 use Rattle.rules.specs.Reader.{linesOf, linesFault, caseIn, lengthFault, textFault, readFault, caseValues, readAnswer, readTasks, readReleases}
 use Rattle.rules.specs.declared.Fault.{Fault}
+use Rattle.rules.specs.declared.Taken.{Taken}
+use Rattle.rules.specs.declared.Taken.the-variants as Taken·
 use Rattle.legal.specs.Firsts.{next-none, next-some}
 use Rattle.legal.specs.Legal.{next-clear, unless-clear}
 use Rattle.reader.specs.Start.{startFault}
@@ -82,19 +85,21 @@ module _ (s : List ℕ) (t r : ℕ) where
   pub at-none : startFault (length s) t r .number ≡ 0 → linesFault 0 1 (linesOf s) .number ≡ 0 → caseFault (caseIn s) .number ≡ 0 → readFault s t r ≡ noFault
   at-none e q p = after-lines e q ∙ ap (λ (g : Fault). orNext g noFault) (next-none _ _ p) ∙ next-none _ _ refl
 
--- the answer and the rooms at exit are those of the text
-abbrev pub Answers : List ℕ → List ℕ → List ℕ → Answer → List ℕ → List ℕ → Type 0
-Answers s tasks releases a tasks′ releases′ = (a ≡ readAnswer s tasks releases) × ((tasks′ ≡ readTasks s tasks releases) × (releases′ ≡ readReleases s tasks releases))
-
 module _ (s tasks releases : List ℕ) where
   -- a refusal: its number and place, and the rooms as they were
-  pub refuses : (f : Fault) (a : Answer) → readFault s (length tasks) (length releases) ≡ f → (f .number ≡ 0 → ⊥) → a ≡ refusal (f .number) (f .place)
-      → Answers s tasks releases a tasks releases
+  pub refuses : (f : Fault) (r : Taken) → readFault s (length tasks) (length releases) ≡ f → (f .number ≡ 0 → ⊥) → takenAs r ≡ refusal (f .number) (f .place)
+      → ReadPromise s tasks releases r tasks releases
   unfolding readAnswer readTasks readReleases settled kept
-  refuses f a e h p = rw (e, ne-eqb (f .number) 0 h) (p, (refl, refl))
+  refuses f r e h p =
+      record {
+        answer = rw (e, ne-eqb (f .number) 0 h) p;
+        left-tasks = rw (e, ne-eqb (f .number) 0 h);
+        left-releases = rw (e, ne-eqb (f .number) 0 h);
+      }
 
   -- an accepted text: the values of its case, and its numbers at the front of the rooms
   pub reads : (c : Case) (t r : ℕ) → readFault s (length tasks) (length releases) ≡ noFault → caseIn s ≡ c → length (c .table) ≡ t → length (c .trace) ≡ r
-      → Answers s tasks releases (result (c .procs ∷ c .policy ∷ c .end ∷ t / taskWidth ∷ r / releaseWidth ∷ [])) (c .table ++ drop (length (c .table)) tasks) (c .trace ++ drop (length (c .trace)) releases)
+      → ReadPromise s tasks releases (Taken·.Read (c .procs) (c .policy) (c .end) (t / taskWidth) (r / releaseWidth))
+      (c .table ++ drop (length (c .table)) tasks) (c .trace ++ drop (length (c .trace)) releases)
   unfolding readAnswer readTasks readReleases settled kept caseValues
-  reads c t r e p q u = rw (e, p, ← q, ← u) (refl, (refl, refl))
+  reads c t r e p q u = record { answer = rw (e, p, ← q, ← u); left-tasks = rw (e, p); left-releases = rw (e, p) }

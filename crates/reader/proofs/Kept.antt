@@ -13,9 +13,10 @@ use Rattle.rules.specs.declared.Fault.{Fault}
 use Rattle.lines.specs.declared.Gathered.{Gathered}
 use Rattle.lines.specs.Held.{keptCase, Whole, Gathers}
 use Rattle.legal.specs.Legal.{legal}
-use Rattle.rules.specs.Answers.{result}
+use Rattle.rules.specs.Calls.{ReadPromise}
+use Rattle.rules.specs.declared.Taken.the-variants as Taken·
 use Rattle.reader.specs.Start.{startFault}
-use Rattle.reader.proofs.Answered.{Answers, at-none, enough-room, reads}
+use Rattle.reader.proofs.Answered.{at-none, enough-room, reads}
 use Rattle.reader.proofs.Clipped.{clip-fault, clip-none}
 
 -- what is kept in a room is as long as it says
@@ -64,7 +65,7 @@ module _ {s ts rs : List ℕ} {g : Gathered} {table trace : List ℕ} (x : Accep
   -- and with them in the rooms the answer is that of the text
   pub all-read : (ts′ rs′ : List ℕ) → ts′ ≡ take (g .tasks - 0) table ++ drop (length (take (g .tasks - 0) table)) ts
       → rs′ ≡ take (g .releases - 0) trace ++ drop (length (take (g .releases - 0) trace)) rs
-      → Answers s ts rs (result (g .head .procs ∷ g .head .policy ∷ g .head .end ∷ g .tasks / 3 ∷ g .releases / 2 ∷ [])) ts′ rs′
+      → ReadPromise s ts rs (Taken·.Read (g .head .procs) (g .head .policy) (g .head .end) (g .tasks / 3) (g .releases / 2)) ts′ rs′
   all-read ts′ rs′ p q =
       let w = x .gathered in
       rw (p, q, sub-zero (g .tasks), sub-zero (g .releases))

@@ -4,7 +4,7 @@ ghost use mathlib.Core.List.{_++_};
 ghost use Prim.Native.Nat.{_≤_};
 ghost use lib.ListN.{length, drop};
 ghost use Rattle.rules.specs.Answers.{refusal, takenAs};
-ghost use Rattle.rules.specs.Reader.{readAnswer, readTasks, readReleases};
+ghost use Rattle.rules.specs.Calls.{ReadPromise};
 ghost use Rattle.reader.specs.Start.{startFault};
 use rules::Fault;
 use rules::Taken;
@@ -49,9 +49,7 @@ fn refused(f: Fault) -> Taken
 
 // The reader: the case of a text, its numbers put into the lent rooms; on a refusal nothing is put there.
 pub fn read(text: &[u8], tasks: &mut [u32], releases: &mut [u32]) -> Taken
-    ensures { λ r. ⌜ takenAs r ≡ readAnswer (now (text .entry)) (now (tasks .entry)) (now (releases .entry)) ⌝ }
-    ensures { λ r. ⌜ now (tasks .exit) ≡ readTasks (now (text .entry)) (now (tasks .entry)) (now (releases .entry)) ⌝ }
-    ensures { λ r. ⌜ now (releases .exit) ≡ readReleases (now (text .entry)) (now (tasks .entry)) (now (releases .entry)) ⌝ }
+    ensures { λ r. ⌜ ReadPromise (now (text .entry)) (now (tasks .entry)) (now (releases .entry)) r (now (tasks .exit)) (now (releases .exit)) ⌝ }
 {
     let a = start_fault(text.len(), tasks.len(), releases.len());
     let ka = a.number;

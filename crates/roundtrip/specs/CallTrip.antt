@@ -1,5 +1,6 @@
 -- The round trip (document 01, "The case text") in the words of the public calls: what the reader answers to what the writer wrote, and
--- what the writer writes of what the reader read. Asked is only that the first call gave a result and that the second has room.
+-- what the writer writes of what the reader read, for any answers that keep the promises of the calls (rules, Calls). Asked is only
+-- that the first call gave a result and that the second has room.
 use mathlib.Core.Path.{_≡_, sym, ap, ap₂, _∙_, subst}
 use mathlib.Core.List.{List, [], _∷_, _++_}
 use Prim.Native.Nat.{ℕ, _+_, _*_, _≤_}
@@ -7,10 +8,13 @@ use native.Mathlib.Omega.{arith}
 use lib.ListN.{length, getD, take, drop}
 use borrow.Author.Tests.{le-leb}
 use Rattle.rules.specs.declared.Fault.{Fault}
+use Rattle.rules.specs.declared.Taken.{Taken}
+use Rattle.rules.specs.declared.Written.{Written}
 use Rattle.rules.specs.Limits.{maxTasks, maxReleases, maxText, taskWidth, releaseWidth}
 use Rattle.rules.specs.Case.{Case, caseOf, taskCount, releaseCount}
 use Rattle.rules.specs.Refusals.{orNext, roomFault, caseFault, Accepted}
-use Rattle.rules.specs.Answers.{result}
+use Rattle.rules.specs.Answers.{result, takenAs, writtenAs}
+use Rattle.rules.specs.Calls.{ReadPromise, WritePromise}
 use Rattle.rules.specs.Reader.{caseIn, textFault, readFault, caseValues, readAnswer, readTasks, readReleases}
 use Rattle.rules.specs.Writer.{caseText, writeFault, writeAnswer, writeBytes}
 use Rattle.lists.specs.Lists.{take-first}
@@ -24,14 +28,14 @@ unfoldable pub inHand : List ℕ → List ℕ → List ℕ → Case
 inHand vs tasks releases =
     caseOf (getD vs 0 0) (getD vs 1 0) (take (getD vs 3 0 * taskWidth) tasks) (getD vs 2 0) (take (getD vs 4 0 * releaseWidth) releases)
 
--- what it means that the reader reads a case in a text
+-- what it means that the reader reads a case in a text, by its definitions
 pub record ReadAs (s tasks releases : List ℕ) (c : Case) : Type 0 where
   pub answer : readAnswer s tasks releases ≡ result (caseValues c)
   pub tasks-after : readTasks s tasks releases ≡ c .table ++ drop (length (c .table)) tasks
   pub releases-after : readReleases s tasks releases ≡ c .trace ++ drop (length (c .trace)) releases
   pub in-hand : inHand (caseValues c) (readTasks s tasks releases) (readReleases s tasks releases) ≡ c
 
--- and that the writer writes a text of a case
+-- and that the writer writes a text of a case, by its
 pub record WrittenAs (c : Case) (room s : List ℕ) : Type 0 where
   pub answer : writeAnswer c room ≡ result (length s ∷ [])
   pub bytes : writeBytes c room ≡ s ++ drop (length s) room
@@ -67,15 +71,14 @@ pub write-clear : (c : Case) (room : ℕ) → Accepted c → length (caseText c)
 unfolding writeFault roomFault orNext Accepted
 write-clear c room h p = rw (h, le-leb (length (caseText c)) room p)
 
--- ---- both calls
--- reading what the writer wrote gives the same case
-pub read-what-was-written : (c : Case) (room : List ℕ) (n : ℕ) (tasks releases : List ℕ)
+-- ---- both, by their definitions
+read-written : (c : Case) (room : List ℕ) (n : ℕ) (tasks releases : List ℕ)
     → writeAnswer c room ≡ result (n ∷ [])
     → maxTasks * taskWidth ≤ length tasks
     → maxReleases * releaseWidth ≤ length releases
     → ReadAs (take n (writeBytes c room)) tasks releases c
 unfolding writeAnswer writeFault Accepted
-read-what-was-written c room n tasks releases h p q =
+read-written c room n tasks releases h p q =
     let a = settled-result (writeFault c (length room)) (length (caseText c) ∷ []) (n ∷ []) h in
     let e : Accepted c = next-clear (caseFault c) _ (a .0) .0 in
     let text : take n (writeBytes c room) ≡ caseText c = ap (take n) (written-as c room (a .0) .bytes) ∙ take-first n (caseText c) _ (sym (ap (λ l. getD l 0 0) (a .1))) in
@@ -87,13 +90,12 @@ read-what-was-written c room n tasks releases h p q =
 pub with-policy-fits : (s : List ℕ) → textFault s .number ≡ 0 → length (withPolicy s) ≤ maxText
 with-policy-fits s h = rw (text-read s h) at (text-fits (caseIn s) (case-accepted s h))
 
--- writing what was read gives the same text, but for the policy line where it was absent
-pub written-what-was-read : (s tasks releases vs room : List ℕ)
+write-read : (s tasks releases vs room : List ℕ)
     → readAnswer s tasks releases ≡ result vs
     → length (withPolicy s) ≤ length room
     → WrittenAs (inHand vs (readTasks s tasks releases) (readReleases s tasks releases)) room (withPolicy s)
 unfolding readAnswer readFault
-written-what-was-read s tasks releases vs room h p =
+write-read s tasks releases vs room h p =
     let a = settled-result (readFault s (length tasks) (length releases)) (caseValues (caseIn s)) vs h in
     let t = next-clear (roomFault (maxTasks * taskWidth) (length tasks)) _ (a .0) in
     let r = next-clear (roomFault (maxReleases * releaseWidth) (length releases)) _ (t .1) in
@@ -103,3 +105,48 @@ written-what-was-read s tasks releases vs room h p =
     let hand : inHand vs (readTasks s tasks releases) (readReleases s tasks releases) ≡ caseIn s =
     ap (λ l. inHand l (readTasks s tasks releases) (readReleases s tasks releases)) (sym (a .1)) ∙ read-as s tasks releases (a .0) (legal (caseIn s) e) .in-hand in
     rw hand (subst (WrittenAs (caseIn s) room) text (written-as (caseIn s) room (write-clear (caseIn s) (length room) e (rw text p))))
+
+-- ---- both calls: any answers that keep their promises
+-- the reader said that it read the case c, and its rooms hold it
+pub record Read (c : Case) (tasks releases : List ℕ) (r : Taken) (tasks-later releases-later : List ℕ) : Type 0 where
+  pub answer : takenAs r ≡ result (caseValues c)
+  pub tasks-after : tasks-later ≡ c .table ++ drop (length (c .table)) tasks
+  pub releases-after : releases-later ≡ c .trace ++ drop (length (c .trace)) releases
+  pub in-hand : inHand (caseValues c) tasks-later releases-later ≡ c
+
+-- the writer said how long the text s is, and its bytes begin with it
+pub record Wrote (s bytes : List ℕ) (w : Written) (later : List ℕ) : Type 0 where
+  pub answer : writtenAs w ≡ result (length s ∷ [])
+  pub bytes-after : later ≡ s ++ drop (length s) bytes
+
+-- reading what the writer wrote gives the same case
+pub read-what-was-written : (c : Case) (bytes : List ℕ) (w : Written) (later : List ℕ) (n : ℕ) (tasks releases : List ℕ) (r : Taken) (ts rs : List ℕ)
+    → WritePromise c bytes w later
+    → writtenAs w ≡ result (n ∷ [])
+    → maxTasks * taskWidth ≤ length tasks
+    → maxReleases * releaseWidth ≤ length releases
+    → ReadPromise (take n later) tasks releases r ts rs
+    → Read c tasks releases r ts rs
+read-what-was-written c bytes w later n tasks releases r ts rs wrote said p q promise =
+    let a = read-written c bytes n tasks releases (sym (wrote .answer) ∙ said) p q in
+    let kept : ReadPromise (take n (writeBytes c bytes)) tasks releases r ts rs =
+    subst (λ l. ReadPromise (take n l) tasks releases r ts rs) (wrote .left) promise in
+    record {
+      answer = kept .answer ∙ a .answer;
+      tasks-after = kept .left-tasks ∙ a .tasks-after;
+      releases-after = kept .left-releases ∙ a .releases-after;
+      in-hand = ap₂ (inHand (caseValues c)) (kept .left-tasks) (kept .left-releases) ∙ a .in-hand;
+    }
+
+-- writing what was read gives the same text, but for the policy line where it was absent
+pub written-what-was-read : (s tasks releases : List ℕ) (r : Taken) (ts rs vs bytes : List ℕ) (w : Written) (later : List ℕ)
+    → ReadPromise s tasks releases r ts rs
+    → takenAs r ≡ result vs
+    → length (withPolicy s) ≤ length bytes
+    → WritePromise (inHand vs ts rs) bytes w later
+    → Wrote (withPolicy s) bytes w later
+written-what-was-read s tasks releases r ts rs vs bytes w later read said p promise =
+    let a = write-read s tasks releases vs bytes (sym (read .answer) ∙ said) p in
+    let same : inHand vs ts rs ≡ inHand vs (readTasks s tasks releases) (readReleases s tasks releases) = ap₂ (inHand vs) (read .left-tasks) (read .left-releases) in
+    let kept = subst (λ c. WritePromise c bytes w later) same promise in
+    record { answer = kept .answer ∙ a .answer; bytes-after = kept .left ∙ a .bytes }

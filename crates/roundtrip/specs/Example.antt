@@ -6,7 +6,8 @@ use Prim.Native.Nat.{ℕ}
 use Rattle.rules.specs.Words.{tab}
 use Rattle.rules.specs.Case.{caseOf}
 use Rattle.rules.specs.Refusals.{noFault, orNext, firstOf, procsFault, policyFault, tableFault, taskFault, endFault, traceFault, inOrder, lastBefore, releaseFault, caseFault}
-use Rattle.rules.specs.Text.{same, upTo, past, has, lineOf, afterLine, fieldOf, afterField, allDigits, noLeadingZero, isNumber, worth, numberIn, digitsIn, digitsOf, procsWord, policyWord, taskWord, endWord, releaseWord, edfWord, policyName}
+use Rattle.rules.specs.Text.{same, upTo, past, has, lineOf, afterLine, fieldOf, afterField, allDigits, noLeadingZero, isNumber, worth, numberIn, digitsIn, digitsOf, procsWord, policyWord, taskWord, endWord, releaseWord}
+use Rattle.rules.specs.Policies.{edf, edfWord, policyName}
 use Rattle.rules.specs.Reader.{oneNumber, twoNumbers, threeNumbers, wordKind, fieldsSay, lineSays, linesIn, linesOf, mayFollow, mayStop, linesFault, withLine, withLines, caseIn, lengthFault, textFault}
 use Rattle.rules.specs.Writer.{joinedText, moreFields, lineText, procsText, policyText, taskText, endText, releaseText, caseText}
 use Rattle.roundtrip.specs.RoundTrip.{policyGiven, withPolicy}
@@ -35,12 +36,12 @@ unfolding same upTo past has lineOf afterLine fieldOf afterField allDigits noLea
     tableFault taskFault endFault traceFault inOrder lastBefore releaseFault caseFault
 short-accepted = refl
 
-pub short-case : caseIn short-text ≡ caseOf 1 0 (5 ∷ 1 ∷ 5 ∷ []) 5 (0 ∷ 1 ∷ [])
+pub short-case : caseIn short-text ≡ caseOf 1 edf (5 ∷ 1 ∷ 5 ∷ []) 5 (0 ∷ 1 ∷ [])
 unfolding same upTo past has lineOf afterLine fieldOf afterField allDigits noLeadingZero isNumber worth numberIn oneNumber twoNumbers threeNumbers wordKind
     fieldsSay lineSays linesIn linesOf withLine withLines caseIn
 short-case = refl
 
-pub short-written : caseText (caseOf 1 0 (5 ∷ 1 ∷ 5 ∷ []) 5 (0 ∷ 1 ∷ [])) ≡ full-text
+pub short-written : caseText (caseOf 1 edf (5 ∷ 1 ∷ 5 ∷ []) 5 (0 ∷ 1 ∷ [])) ≡ full-text
 unfolding tab digitsIn digitsOf policyName joinedText moreFields lineText procsText policyText taskText endText releaseText caseText
 short-written = refl
 

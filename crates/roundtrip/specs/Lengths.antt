@@ -3,15 +3,14 @@
 use mathlib.Core.List.{List, [], _∷_}
 use Prim.Native.Nat.{ℕ, _+_, _*_, _^_, _≤_, _<_}
 use native.Mathlib.Omega.{arith}
-use lib.Dec.{eqb}
 use lib.ListN.{length, length-append}
 use Rattle.rules.specs.declared.Line.{Line}
 use Rattle.rules.specs.declared.Line.the-variants.{Bad, Procs, Policy, Row, End, Release}
-use Rattle.rules.specs.Text.{tabByte, digitsOf, policyName, edfWord, edfCfWord}
+use Rattle.rules.specs.Text.{tabByte, digitsOf}
 use Rattle.rules.specs.Writer.{moreFields, lineText}
-use Rattle.lists.specs.Lists.{picked}
 use Rattle.texts.specs.Digits.{digits-few}
 use Rattle.texts.specs.Fields.{All}
+use Rattle.texts.specs.PolicyNames.{name-short}
 use Rattle.roundtrip.specs.LineTrip.{wordOf, fieldsIn, lineBytes, Below}
 use Rattle.roundtrip.specs.Lines.{textOf}
 
@@ -20,10 +19,6 @@ Short f = length f ≤ 6
 
 digits-short : (n : ℕ) → n < 10 ^ 6 → Short (digitsOf n)
 digits-short n h = digits-few 5 n (omega arith) h
-
-name-short : (p : ℕ) → Short (policyName p)
-unfolding policyName
-name-short p = picked Short (eqb p 0) edfWord edfCfWord (λ _. omega arith) (λ _. omega arith)
 
 fields-long : (fs : List (List ℕ)) → All Short fs → length (moreFields tabByte fs) ≤ 1 + 7 * length fs
 unfolding moreFields All

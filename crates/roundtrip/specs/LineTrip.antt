@@ -3,17 +3,18 @@
 use mathlib.Core.Path.{_≡_, refl, sym, ap, _∙_}
 use mathlib.Core.Bool.{true}
 use mathlib.Core.List.{List, [], _∷_, _++_}
-use Prim.Native.Nat.{ℕ, zero, suc, _+_, _^_, _≤_, _<_}
+use Prim.Native.Nat.{ℕ, _^_, _≤_, _<_}
 use native.Mathlib.Omega.{arith}
-use lib.Dec.{eqb}
 use lib.ListN.{length}
 use Rattle.rules.specs.declared.Line.{Line}
 use Rattle.rules.specs.declared.Line.the-variants.{Bad, Procs, Policy, Row, End, Release}
-use Rattle.rules.specs.Text.{newlineByte, tabByte, same, has, fieldOf, afterField, digitsOf, policyName, procsWord, policyWord, taskWord, endWord, releaseWord, edfWord, edfCfWord}
+use Rattle.rules.specs.Text.{newlineByte, tabByte, same, has, fieldOf, afterField, digitsOf, procsWord, policyWord, taskWord, endWord, releaseWord}
+use Rattle.rules.specs.Policies.{maxPolicy, policyName}
 use Rattle.rules.specs.Reader.{withNumber, oneNumber, twoNumbers, threeNumbers, policyIn, wordKind, fieldsSay, lineSays, kindOf}
 use Rattle.rules.specs.Writer.{lineText}
 use Rattle.lists.specs.Lists.{picked}
 use Rattle.texts.specs.Digits.{digits-some, written-reads, reads-written}
+use Rattle.texts.specs.PolicyNames.{name-plain, name-some, name-found, name-read}
 use Rattle.texts.specs.Fields.{same-true, upTo-seam, upTo-none, past-seam, Plain, digits-plain, parted, All, line-parted, parted-cons}
 
 -- ---- what is written of what a line says
@@ -51,10 +52,6 @@ unfoldable pub Said : Line → Type 0
 Said l = kindOf l ≡ 0 → ⊥
 
 -- ---- neither tab nor newline stands in a word or a field
-name-plain : (p : ℕ) → Plain (policyName p)
-unfolding policyName has
-name-plain p = picked Plain (eqb p 0) edfWord edfCfWord (λ e. record { no-tab = refl; no-newline = refl }) (λ e. record { no-tab = refl; no-newline = refl })
-
 pub word-plain : (l : Line) → Plain (wordOf l)
 unfolding wordOf has
 word-plain Bad = record { no-tab = refl; no-newline = refl }
@@ -74,11 +71,11 @@ fields-plain (End e) = (digits-plain e, tt)
 fields-plain (Release t n) = (digits-plain t, (digits-plain n, tt))
 
 -- ---- written, then read
--- every number of the line is below b, and its policy is one of the two
+-- every number of the line is below b, and its policy is one
 unfoldable pub Below : ℕ → Line → Type 0
 Below b Bad = ⊥
 Below b (Procs m) = m < b
-Below b (Policy p) = p ≤ 1
+Below b (Policy p) = p ≤ maxPolicy
 Below b (Row T C D) = (T < b) × (C < b) × (D < b)
 Below b (End e) = e < b
 Below b (Release t n) = (t < b) × (n < b)
@@ -112,10 +109,9 @@ three-written : (a b d : ℕ) (say : ℕ → ℕ → ℕ → Line) → a < 10 ^ 
 unfolding oneNumber threeNumbers
 three-written a b d say h k l = more-written a (digitsOf b) (digitsOf d ∷ []) (λ s v. twoNumbers s (say v)) h ∙ two-written b d (say a) k l
 
-name-written : (p : ℕ) → p ≤ 1 → policyIn (policyName p) ≡ Policy p
-unfolding policyIn policyName same
-name-written zero h = refl
-name-written (suc p) h = let z : suc p ≡ 1 = omega arith in rw z
+policy-written : (p : ℕ) → p ≤ maxPolicy → policyIn (policyName p) ≡ Policy p
+unfolding policyIn
+policy-written p h = rw (name-found p h)
 
 word-kind : (l : Line) → wordKind (wordOf l) ≡ kindOf l
 unfolding wordKind wordOf same
@@ -141,7 +137,7 @@ pub written-says : (b : ℕ) (l : Line) → b ≤ 10 ^ 9 → Below b l → lineS
 unfolding lineBody fieldsIn Below fieldsSay parted
 written-says b Bad h k = absurd k
 written-says b (Procs m) h k = parted-says (Procs m) (digitsOf m) [] ∙ one-written m Procs (omega arith)
-written-says b (Policy p) h k = parted-says (Policy p) (policyName p) [] ∙ name-written p k
+written-says b (Policy p) h k = parted-says (Policy p) (policyName p) [] ∙ policy-written p k
 written-says b (Row T C D) h k = parted-says (Row T C D) (digitsOf T) (digitsOf C ∷ digitsOf D ∷ []) ∙ three-written T C D Row (omega (arith, k .0)) (omega (arith, k .1)) (omega (arith, k .2))
 written-says b (End e) h k = parted-says (End e) (digitsOf e) [] ∙ one-written e End (omega arith)
 written-says b (Release t n) h k = parted-says (Release t n) (digitsOf t) (digitsOf n ∷ []) ∙ two-written t n Release (omega (arith, k .0)) (omega (arith, k .1))
@@ -166,15 +162,9 @@ three-read P s say bad good =
     one-read P (fieldOf s) (λ a. twoNumbers (afterField s) (say a)) bad
     (λ a p. two-read P (afterField s) (say a) bad (λ b d q. good a b d (parted-cons s (digitsOf a) (digitsOf b) (digitsOf d ∷ []) p q (digits-some b))))
 
-name-read : (P : Line → Type 0) (s : List ℕ) → P Bad → ((p : ℕ) → s ≡ policyName p → P (Policy p)) → P (policyIn s)
-unfolding policyIn policyName
-name-read P s bad good =
-    picked P (same s edfWord) _ _ (λ e. good 0 (same-true s edfWord e))
-    (λ _. picked P (same s edfCfWord) _ _ (λ e. good 1 (same-true s edfCfWord e)) (λ _. bad))
-
-name-some : (p : ℕ) → 1 ≤ length (policyName p)
-unfolding policyName
-name-some p = picked (λ (z : List ℕ). 1 ≤ length z) (eqb p 0) edfWord edfCfWord (λ _. omega arith) (λ _. omega arith)
+policy-read : (P : Line → Type 0) (s : List ℕ) → P Bad → ((p : ℕ) → p ≤ maxPolicy → s ≡ policyName p → P (Policy p)) → P (policyIn s)
+unfolding policyIn
+policy-read P s bad good = name-read (λ n. P (withNumber n Policy)) s bad good
 
 -- the line s is what is written of l, if l says anything
 abbrev pub Returns : List ℕ → Line → Type 0
@@ -199,7 +189,7 @@ says-written s =
     let bad = returns-bad s in
     let Kind : ℕ → Type 0 = λ k. Returns s (fieldsSay k f) in
     picked Kind (same w procsWord) _ _ (λ e. one-read (Returns s) f Procs bad (λ a q. returns-fields s (Procs a) (digitsOf a) [] e q (digits-some a) refl))
-    (λ _. picked Kind (same w policyWord) _ _ (λ e. name-read (Returns s) f bad (λ p q. returns-fields s (Policy p) (policyName p) [] e q (name-some p) refl))
+    (λ _. picked Kind (same w policyWord) _ _ (λ e. policy-read (Returns s) f bad (λ p k q. returns-fields s (Policy p) (policyName p) [] e q (name-some p k) refl))
     (λ _. picked Kind (same w taskWord) _ _ (λ e. three-read (Returns s) f Row bad (λ a b d q. returns-fields s (Row a b d) (digitsOf a) (digitsOf b ∷ digitsOf d ∷ []) e q (digits-some a) refl))
     (λ _. picked Kind (same w endWord) _ _ (λ e. one-read (Returns s) f End bad (λ a q. returns-fields s (End a) (digitsOf a) [] e q (digits-some a) refl))
     (λ _. picked Kind (same w releaseWord) _ _ (λ e. two-read (Returns s) f Release bad (λ a b q. returns-fields s (Release a b) (digitsOf a) (digitsOf b ∷ []) e q (digits-some a) refl)) (λ _. bad)))))

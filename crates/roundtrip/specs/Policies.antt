@@ -1,5 +1,5 @@
--- The reader cannot meet 14 (document 01, "Refusals by number"): the policy of a text is 0 or 1, whatever its bytes are. It is so of each
--- line that `lineSays` reads, and so of the case that `caseIn` makes of them.
+-- The reader cannot meet 14 (document 01, "Refusals by number"): the policy of a text is one of the policies, whatever its bytes are. It is
+-- so of each line that `lineSays` reads, and so of the case that `caseIn` makes of them.
 use Prim.Native.Nat.{ℕ, zero, suc, _≤_}
 use mathlib.Core.Path.{_≡_}
 use mathlib.Core.Bool.{Bool, true, false}
@@ -11,50 +11,51 @@ use borrow.Author.Tests.{le-leb}
 use Rattle.rules.specs.Words.{pick}
 use Rattle.rules.specs.Case.{Case}
 use Rattle.rules.specs.Refusals.{noFault, policyFault}
-use Rattle.rules.specs.Text.{newlineByte, same, has, lineOf, afterLine, fieldOf, afterField, numberIn, edfWord, edfCfWord}
+use Rattle.rules.specs.Text.{newlineByte, has, lineOf, afterLine, fieldOf, afterField, numberIn}
+use Rattle.rules.specs.Policies.{edf, maxPolicy}
 use Rattle.rules.specs.Reader.{withNumber, oneNumber, twoNumbers, threeNumbers, policyIn, wordKind, fieldsSay, lineSays, linesIn, linesOf, noCase, withLine, withLines, caseIn}
+use Rattle.texts.specs.PolicyNames.{name-read}
 use Rattle.rules.specs.declared.Num.{Num}
 use Rattle.rules.specs.declared.Num.the-variants as Num·
 use Rattle.rules.specs.declared.Line.{Line}
 use Rattle.rules.specs.declared.Line.the-variants.{Bad, Procs, Policy, Row, End, Release}
 
--- the policy that a line names; 0 where it names none
-abbrev policyOf : Line → ℕ
-policyOf Bad = 0
-policyOf (Procs m) = 0
-policyOf (Policy p) = p
-policyOf (Row T C D) = 0
-policyOf (End e) = 0
-policyOf (Release t n) = 0
+-- the policy that a line names, EDF where it names none
+abbrev policyIs : Line → ℕ
+policyIs Bad = edf
+policyIs (Procs m) = edf
+policyIs (Policy p) = p
+policyIs (Row T C D) = edf
+policyIs (End e) = edf
+policyIs (Release t n) = edf
 
 -- ---- one line
-either-known : (b : Bool) (x y : Line) → policyOf x ≤ 1 → policyOf y ≤ 1 → policyOf (pick b x y) ≤ 1
+either-known : (b : Bool) (x y : Line) → policyIs x ≤ maxPolicy → policyIs y ≤ maxPolicy → policyIs (pick b x y) ≤ maxPolicy
 either-known true x y p q = p
 either-known false x y p q = q
 
-number-known : (n : Num) (say : ℕ → Line) → ((a : ℕ) → policyOf (say a) ≤ 1) → policyOf (withNumber n say) ≤ 1
+number-known : (n : Num) (say : ℕ → Line) → ((a : ℕ) → policyIs (say a) ≤ maxPolicy) → policyIs (withNumber n say) ≤ maxPolicy
 number-known (Num·.Value v) say h = h v
 number-known Num·.Bad say h = omega arith
 
-one-known : (s : List ℕ) (say : ℕ → Line) → ((a : ℕ) → policyOf (say a) ≤ 1) → policyOf (oneNumber s say) ≤ 1
+one-known : (s : List ℕ) (say : ℕ → Line) → ((a : ℕ) → policyIs (say a) ≤ maxPolicy) → policyIs (oneNumber s say) ≤ maxPolicy
 unfolding oneNumber
 one-known s say h = number-known (numberIn s) say h
 
-two-known : (s : List ℕ) (say : ℕ → ℕ → Line) → ((a b : ℕ) → policyOf (say a b) ≤ 1) → policyOf (twoNumbers s say) ≤ 1
+two-known : (s : List ℕ) (say : ℕ → ℕ → Line) → ((a b : ℕ) → policyIs (say a b) ≤ maxPolicy) → policyIs (twoNumbers s say) ≤ maxPolicy
 unfolding twoNumbers
 two-known s say h = number-known (numberIn (fieldOf s)) (λ a. oneNumber (afterField s) (say a)) (λ a. one-known (afterField s) (say a) (h a))
 
-three-known : (s : List ℕ) (say : ℕ → ℕ → ℕ → Line) → ((a b d : ℕ) → policyOf (say a b d) ≤ 1) → policyOf (threeNumbers s say) ≤ 1
+three-known : (s : List ℕ) (say : ℕ → ℕ → ℕ → Line) → ((a b d : ℕ) → policyIs (say a b d) ≤ maxPolicy)
+    → policyIs (threeNumbers s say) ≤ maxPolicy
 unfolding threeNumbers
 three-known s say h = number-known (numberIn (fieldOf s)) (λ a. twoNumbers (afterField s) (say a)) (λ a. two-known (afterField s) (say a) (h a))
 
-name-known : (s : List ℕ) → policyOf (policyIn s) ≤ 1
+name-known : (s : List ℕ) → policyIs (policyIn s) ≤ maxPolicy
 unfolding policyIn
-name-known s =
-    either-known (same s edfWord) (Policy 0) (pick (same s edfCfWord) (Policy 1) Bad) (omega arith)
-    (either-known (same s edfCfWord) (Policy 1) Bad (omega arith) (omega arith))
+name-known s = name-read (λ n. policyIs (withNumber n Policy) ≤ maxPolicy) s (omega arith) (λ p h e. h)
 
-fields-known : (k : ℕ) (s : List ℕ) → policyOf (fieldsSay k s) ≤ 1
+fields-known : (k : ℕ) (s : List ℕ) → policyIs (fieldsSay k s) ≤ maxPolicy
 unfolding fieldsSay
 fields-known k s =
     either-known (eqb k 1) _ _ (one-known s Procs (λ a. omega arith))
@@ -63,12 +64,12 @@ fields-known k s =
     (either-known (eqb k 4) _ _ (one-known s End (λ a. omega arith))
     (either-known (eqb k 5) _ _ (two-known s Release (λ a b. omega arith)) (omega arith)))))
 
-line-known : (s : List ℕ) → policyOf (lineSays s) ≤ 1
+line-known : (s : List ℕ) → policyIs (lineSays s) ≤ maxPolicy
 unfolding lineSays
 line-known s = fields-known (wordKind (fieldOf s)) (afterField s)
 
 -- ---- all lines of a text
-more-known : (c : Case) (l : Line) → c .policy ≤ 1 → policyOf l ≤ 1 → withLine c l .policy ≤ 1
+more-known : (c : Case) (l : Line) → c .policy ≤ maxPolicy → policyIs l ≤ maxPolicy → withLine c l .policy ≤ maxPolicy
 unfolding withLine
 more-known c Bad h k = h
 more-known c (Procs m) h k = h
@@ -77,7 +78,7 @@ more-known c (Row T C D) h k = h
 more-known c (End e) h k = h
 more-known c (Release t n) h k = h
 
-lines-known : (k : ℕ) (s : List ℕ) (c : Case) → c .policy ≤ 1 → withLines c (linesIn k s) .policy ≤ 1
+lines-known : (k : ℕ) (s : List ℕ) (c : Case) → c .policy ≤ maxPolicy → withLines c (linesIn k s) .policy ≤ maxPolicy
 unfolding withLines linesIn
 lines-known zero s c h = h
 lines-known (suc k) [] c h = h
@@ -85,12 +86,12 @@ lines-known (suc k) (b ∷ s) c h =
     lines-known k (afterLine (b ∷ s)) _
     (more-known c _ h (either-known (has newlineByte (b ∷ s)) _ Bad (line-known (lineOf (b ∷ s))) (omega arith)))
 
--- the policy of a text is 0 or 1
-pub policy-known : (s : List ℕ) → caseIn s .policy ≤ 1
+-- the policy of a text is one of the policies
+pub policy-known : (s : List ℕ) → caseIn s .policy ≤ maxPolicy
 unfolding caseIn linesOf
 policy-known s = lines-known (length s) s noCase (omega arith)
 
 -- so the test that gives 14 passes
 pub never-14 : (s : List ℕ) → policyFault (caseIn s .policy) ≡ noFault
 unfolding policyFault
-never-14 s = rw (le-leb (caseIn s .policy) 1 (policy-known s))
+never-14 s = rw (le-leb (caseIn s .policy) maxPolicy (policy-known s))

@@ -5,7 +5,7 @@ use mathlib.Core.List.{List}
 use lib.ListN.{length, getD}
 use Rattle.rules.specs.Limits.{taskWidth, releaseWidth}
 
--- processors, policy (0 is EDF, 1 is EDF-CF), the task numbers, the end, the release numbers
+-- processors, policy, the task numbers, the end, the release numbers
 pub record Case : Type 0 where
   pub procs : ℕ
   pub policy : ℕ

@@ -2,12 +2,14 @@ pub mod Words
 pub mod Limits
 pub mod Case
 pub mod Counts
+pub mod Text
+pub mod Policies
 pub mod Slot
 pub mod Replay
 pub mod Refusals
 pub mod Answers
 pub mod Calls
-pub mod Text
 pub mod Reader
 pub mod Writer
 pub mod Report
+pub mod Told

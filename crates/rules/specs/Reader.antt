@@ -10,7 +10,8 @@ use Rattle.rules.specs.Limits.{maxTasks, maxReleases, maxText, taskWidth
 use Rattle.rules.specs.Case.{Case, caseOf, taskCount, releaseCount}
 use Rattle.rules.specs.Refusals.{noFault, unless, orNext, first, roomFault, caseFault}
 use Rattle.rules.specs.Answers.{Answer, settled, kept}
-use Rattle.rules.specs.Text.{newlineByte, same, has, lineOf, afterLine, fieldOf, afterField, numberIn, procsWord, policyWord, taskWord, endWord, releaseWord, edfWord, edfCfWord}
+use Rattle.rules.specs.Text.{newlineByte, same, has, lineOf, afterLine, fieldOf, afterField, numberIn, procsWord, policyWord, taskWord, endWord, releaseWord}
+use Rattle.rules.specs.Policies.{edf, policyOf}
 use Rattle.rules.specs.declared.Fault.{Fault}
 use Rattle.rules.specs.declared.Num.{Num}
 use Rattle.rules.specs.declared.Num.the-variants as Num·
@@ -35,7 +36,7 @@ threeNumbers s say = withNumber (numberIn (fieldOf s)) (λ a. twoNumbers (afterF
 
 -- a policy by its word
 unfoldable pub policyIn : List ℕ → Line
-policyIn s = pick (same s edfWord) (Policy 0) (pick (same s edfCfWord) (Policy 1) Bad)
+policyIn s = withNumber (policyOf s) Policy
 
 -- the kinds of line, in their order: 1 procs, 2 policy, 3 task, 4 end, 5 release; 0 is none of them
 unfoldable pub wordKind : List ℕ → ℕ
@@ -101,7 +102,7 @@ linesFault before n (l ∷ ls) =
 -- ---- the case of a text
 -- without a policy line the policy is EDF
 abbrev pub policyWhenAbsent : ℕ
-policyWhenAbsent = 0
+policyWhenAbsent = edf
 
 abbrev pub noCase : Case
 noCase = caseOf 0 policyWhenAbsent [] 0 []

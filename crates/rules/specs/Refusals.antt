@@ -9,6 +9,7 @@ use lib.ListN.{length}
 use Rattle.rules.specs.Words.{pick}
 use Rattle.rules.specs.Limits.{maxProcs, maxTasks, maxPeriod, maxEnd, maxReleases, taskWidth, releaseWidth, recordWidth}
 use Rattle.rules.specs.Case.{Case, taskCount, period, execution, deadline, releaseCount, timeOf, nameOf}
+use Rattle.rules.specs.Policies.{maxPolicy}
 use Rattle.rules.specs.declared.Fault.{Fault}
 
 abbrev pub faultOf : ℕ → ℕ → Fault
@@ -42,7 +43,7 @@ procsFault m = unless (leb 1 m && leb m maxProcs) 4 0
 
 -- ---- 14: policy not 0 or 1
 unfoldable pub policyFault : ℕ → Fault
-policyFault p = unless (leb p 1) 14 0
+policyFault p = unless (leb p maxPolicy) 14 0
 
 -- ---- 5: tasks not 1 to 32, or task numbers not in threes
 unfoldable pub tableFault : List ℕ → Fault
@@ -89,14 +90,16 @@ abbrev pub apart : ℕ → ℕ → ℕ → Bool
 apart zero T t = true
 apart (suc u) T t = leb (u + T) t
 
--- the first of 8, 11 (a release time ≥ end), 9 and 10 that release j meets
-unfoldable pub releaseFault : List ℕ → ℕ → List ℕ → ℕ → Fault
-releaseFault ts e rs j =
-    first
-    (unless (named ts (nameOf rs j)) 8 (suc j) ∷
+-- the tests of release j in their order: 8, 11 (a release time ≥ end), 9, 10
+abbrev pub releaseTests : List ℕ → ℕ → List ℕ → ℕ → List Fault
+releaseTests ts e rs j =
+    unless (named ts (nameOf rs j)) 8 (suc j) ∷
     unless (ltb (timeOf rs j) e) 11 (suc j) ∷
     unless (inOrder rs j) 9 (suc j) ∷
-    unless (apart (lastBefore rs j (nameOf rs j)) (period ts (nameOf rs j - 1)) (timeOf rs j)) 10 (suc j) ∷ [])
+    unless (apart (lastBefore rs j (nameOf rs j)) (period ts (nameOf rs j - 1)) (timeOf rs j)) 10 (suc j) ∷ []
+
+unfoldable pub releaseFault : List ℕ → ℕ → List ℕ → ℕ → Fault
+releaseFault ts e rs j = first (releaseTests ts e rs j)
 
 abbrev pub releasesFault : List ℕ → ℕ → List ℕ → Fault
 releasesFault ts e rs = firstOf (releaseFault ts e rs) (releaseCount rs)
@@ -111,17 +114,22 @@ slotFault e s = unless (ltb s e) 15 0
 
 -- ---- which tests a call makes, in their order
 -- 4, 14, 5, 6, 7, 12, then release by release 8, 11, 9, 10: what every call on a whole case makes
-unfoldable pub caseFault : Case → Fault
-caseFault c =
-    first
-    (procsFault (c .procs) ∷
+abbrev pub caseTests : Case → List Fault
+caseTests c =
+    procsFault (c .procs) ∷
     policyFault (c .policy) ∷
     tableFault (c .table) ∷
-    tasksFault (c .table) ∷ endFault (c .end) ∷ traceFault (c .trace) ∷ releasesFault (c .table) (c .end) (c .trace) ∷ [])
+    tasksFault (c .table) ∷ endFault (c .end) ∷ traceFault (c .trace) ∷ releasesFault (c .table) (c .end) (c .trace) ∷ []
+
+unfoldable pub caseFault : Case → Fault
+caseFault c = first (caseTests c)
 
 -- the counts: 4, 5, 6, 13, with room for one number a task
+abbrev pub countsTests : ℕ → List ℕ → ℕ → List Fault
+countsTests m ts room = procsFault m ∷ tableFault ts ∷ tasksFault ts ∷ roomFault (taskCount ts) room ∷ []
+
 unfoldable pub countsFault : ℕ → List ℕ → ℕ → Fault
-countsFault m ts room = first (procsFault m ∷ tableFault ts ∷ tasksFault ts ∷ roomFault (taskCount ts) room ∷ [])
+countsFault m ts room = first (countsTests m ts room)
 
 -- the replay: the case's, then 13, with room for three numbers a release
 unfoldable pub replayFault : Case → ℕ → Fault

@@ -1,5 +1,5 @@
 -- What the program prints (document 01, "The case text", from "The program reads a case" on): the lines run, job, total and refused, byte
--- for byte, and what is printed of a whole text. The contracts of the crates report and thrumcomb are equations with these.
+-- for byte, and what is printed of a whole text. The contracts of the crates prints, report and program are equations with these.
 use Prim.Native.Nat.{ℕ, zero, suc, _+_, _-_}
 use mathlib.Core.List.{List, [], _∷_, _++_}
 use lib.Dec.{eqb}
@@ -7,7 +7,8 @@ use lib.ListN.{length}
 use Rattle.rules.specs.Words.{pick, tab}
 use Rattle.rules.specs.Case.{Case, taskCount, deadline, releaseCount, timeOf, nameOf}
 use Rattle.rules.specs.Replay.{Record, recordBy, metJobs, missedJobs, openJobs}
-use Rattle.rules.specs.Text.{digitsOf, policyName}
+use Rattle.rules.specs.Text.{digitsOf}
+use Rattle.rules.specs.Policies.{policyName}
 use Rattle.rules.specs.Reader.{textFault, caseIn}
 use Rattle.rules.specs.Writer.{joinedText, lineText}
 

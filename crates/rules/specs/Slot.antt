@@ -9,7 +9,7 @@ use lib.ListN.{getD}
 use Rattle.rules.specs.Words.{pick, bit, sum, countIn, mapAt}
 use Rattle.rules.specs.Limits.{maxTasks}
 use Rattle.rules.specs.Case.{execution, deadline}
-use Rattle.rules.specs.Counts.{freeCount}
+use Rattle.rules.specs.Policies.{demoting, freeCountUnder}
 use Rattle.rules.specs.declared.Job.{Job}
 use Rattle.rules.specs.declared.Job.the-variants.{Idle, Normal, Demoted}
 use Rattle.rules.specs.declared.Task.{Task}
@@ -24,9 +24,13 @@ pub record Setup : Type 0 where
 abbrev pub setupOf : ℕ → ℕ → List ℕ → Setup
 setupOf m p ts = record { procs = m; policy = p; table = ts }
 
--- EDF-CF is policy 1
+-- whether the policy demotes
 abbrev pub isCf : Setup → Bool
-isCf g = eqb (g .policy) 1
+isCf g = demoting (g .policy)
+
+-- the free count that a job of the task at i has at its release
+abbrev pub freeCountIn : Setup → ℕ → ℕ
+freeCountIn g i = freeCountUnder (g .policy) (g .procs) (g .table) i
 
 -- ---- jobs and states
 -- a set of tasks: which of the indices 0 to 31 are in it
@@ -63,6 +67,12 @@ leftOf Idle = 0
 leftOf (Normal left free due) = left
 leftOf (Demoted left due) = left
 
+-- the remaining free count: a demoted job carries none
+abbrev pub freeOf : Job → ℕ
+freeOf Idle = 0
+freeOf (Normal left free due) = free
+freeOf (Demoted left due) = 0
+
 -- the absolute deadline
 abbrev pub dueOf : Job → ℕ
 dueOf Idle = 0
@@ -89,7 +99,7 @@ judged now r = eachTask (λ i t. judgedTask now t) r
 
 -- ---- step 2: each job released at t becomes normal with remaining execution C, its task's free count, and deadline t + D
 abbrev pub releasedJob : Setup → ℕ → ℕ → Job
-releasedJob g now i = Normal (execution (g .table) i) (freeCount (g .procs) (g .table) i) (now + deadline (g .table) i)
+releasedJob g now i = Normal (execution (g .table) i) (freeCountIn g i) (now + deadline (g .table) i)
 
 -- the task keeps one more than the time of its last release
 abbrev pub releasedTask : Setup → ℕ → ℕ → Task → Task
@@ -114,7 +124,7 @@ abbrev pub demotedTask : Task → Task
 demotedTask t = pick (isDemotedNow (t .job)) (withJob t (Demoted (leftOf (t .job)) (dueOf (t .job)))) t
 
 unfoldable pub demoted : Setup → Run → Run
-demoted g r = pick (isCf g) (eachTask (λ i t. demotedTask t) r) r
+demoted g r = pick (demoting (g .policy)) (eachTask (λ i t. demotedTask t) r) r
 
 -- ---- step 4: N is the number of normal and demoted jobs now
 unfoldable pub jobsNow : Run → ℕ
@@ -134,7 +144,7 @@ abbrev pub loweredTask : Task → Task
 loweredTask t = withJob t (loweredJob (t .job))
 
 unfoldable pub lowered : Setup → Run → Run
-lowered g r = pick (isCf g && contentionFree g r) (eachTask (λ i t. loweredTask t) r) r
+lowered g r = pick (demoting (g .policy) && contentionFree g r) (eachTask (λ i t. loweredTask t) r) r
 
 -- ---- a slot is opened: steps 1 to 4, in this order
 abbrev pub readied : Setup → ℕ → TaskSet → Run → Run
@@ -175,6 +185,10 @@ chosen g now r i = present r i && ltb (rank g now r i) (g .procs)
 abbrev pub lastUnit : ℕ → Bool
 lastUnit left = leb left 1
 
+-- whether the job's next unit is its last
+abbrev pub isLast : Job → Bool
+isLast j = lastUnit (leftOf j)
+
 abbrev pub workedJob : Job → Job
 workedJob Idle = Idle
 workedJob (Normal left free due) = pick (lastUnit left) Idle (Normal (left - 1) free due)
@@ -194,13 +208,13 @@ unfoldable pub ran : Setup → ℕ → TaskSet → Run → TaskSet
 ran g now released r i = chosen g now (opened g now released r) i
 
 unfoldable pub finished : Setup → ℕ → TaskSet → Run → TaskSet
-finished g now released r i = ran g now released r i && lastUnit (leftOf (jobAt (opened g now released r) i))
+finished g now released r i = ran g now released r i && isLast (jobAt (opened g now released r) i)
 
 unfoldable pub missed : Setup → ℕ → TaskSet → Run → TaskSet
 missed g now released r i = isMissed now (jobAt r i)
 
 unfoldable pub demotedNow : Setup → ℕ → TaskSet → Run → TaskSet
-demotedNow g now released r i = isCf g && isDemotedNow (jobAt (readied g now released r) i)
+demotedNow g now released r i = demoting (g .policy) && isDemotedNow (jobAt (readied g now released r) i)
 
 -- a set as a number: bit (task − 1) for each task in it
 unfoldable pub setNumber : TaskSet → ℕ

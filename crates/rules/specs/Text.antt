@@ -89,7 +89,7 @@ digitsIn (suc k) n = pick (ltb n 10) ((48 + n % 10) ∷ []) (digitsIn k (n / 10)
 unfoldable pub digitsOf : ℕ → List ℕ
 digitsOf n = digitsIn 9 n
 
--- ---- the words of the case text and of what is printed
+-- ---- the words of the case text; those of the policies are in Policies, those of what is printed in Report
 abbrev pub procsWord : List ℕ
 procsWord = 112 ∷ 114 ∷ 111 ∷ 99 ∷ 115 ∷ []
 
@@ -104,13 +104,3 @@ endWord = 101 ∷ 110 ∷ 100 ∷ []
 
 abbrev pub releaseWord : List ℕ
 releaseWord = 114 ∷ 101 ∷ 108 ∷ 101 ∷ 97 ∷ 115 ∷ 101 ∷ []
-
-abbrev pub edfWord : List ℕ
-edfWord = 101 ∷ 100 ∷ 102 ∷ []
-
-abbrev pub edfCfWord : List ℕ
-edfCfWord = 101 ∷ 100 ∷ 102 ∷ 45 ∷ 99 ∷ 102 ∷ []
-
--- the word of a policy: 0 is EDF, 1 is EDF-CF
-unfoldable pub policyName : ℕ → List ℕ
-policyName p = pick (eqb p 0) edfWord edfCfWord

@@ -7,7 +7,8 @@ use Rattle.rules.specs.Words.{tab}
 use Rattle.rules.specs.Case.{Case, taskCount, period, execution, deadline, releaseCount, timeOf, nameOf}
 use Rattle.rules.specs.Refusals.{first, roomFault, caseFault}
 use Rattle.rules.specs.Answers.{Answer, settled, kept}
-use Rattle.rules.specs.Text.{newlineByte, tabByte, digitsOf, policyName, procsWord, policyWord, taskWord, endWord, releaseWord}
+use Rattle.rules.specs.Text.{newlineByte, tabByte, digitsOf, procsWord, policyWord, taskWord, endWord, releaseWord}
+use Rattle.rules.specs.Policies.{policyName}
 use Rattle.rules.specs.declared.Fault.{Fault}
 
 -- texts one after the other

@@ -1,4 +1,23 @@
-// The declared types of document 01. There is no function here: what they mean is said in specs/.
+// The declared types of document 01 and the numbers that it fixes. There is no function here: what they mean is said in specs/.
+
+// The limits and widths of specs/Limits.antt, each under its name there. No other code writes these numbers.
+pub const MAX_PROCS: u32 = 32;
+
+pub const MAX_TASKS: usize = 32;
+
+pub const MAX_PERIOD: u32 = 10000;
+
+pub const MAX_END: u32 = 100000;
+
+pub const MAX_RELEASES: usize = 2000;
+
+pub const MAX_TEXT: usize = 60000;
+
+pub const TASK_WIDTH: usize = 3;
+
+pub const RELEASE_WIDTH: usize = 2;
+
+pub const RECORD_WIDTH: usize = 3;
 
 // The state of a task: no job, a normal one or a demoted one.
 // `left` is the remaining execution, `free` the remaining free count, `due` the absolute deadline.
@@ -17,7 +36,7 @@ pub struct Task {
 
 // A run: one record for each of 32 tasks.
 pub struct Run {
-    pub tasks: [Task; 32],
+    pub tasks: [Task; MAX_TASKS],
 }
 
 // What a check finds: a refusal's number and place; number 0 where nothing is at fault.

@@ -2,11 +2,12 @@
 ghost use mathlib.Core.Path.{_≡_};
 ghost use Prim.Native.Nat.{_+_, _≤_};
 ghost use lib.ListN.{length, drop};
-ghost use Rattle.rules.specs.Text.{same, upTo, lineOf, fieldOf, afterField, numberIn};
+ghost use Rattle.rules.specs.Text.{upTo, lineOf, fieldOf, afterField, numberIn};
 ghost use Rattle.rules.specs.Reader.{oneNumber, twoNumbers, threeNumbers, policyIn, wordKind, fieldsSay, lineSays, mayFollow};
 ghost use Rattle.rules.specs.declared.Line.the-variants.{Procs, Row, End, Release};
 use rules::Line;
 use rules::Num;
+use words::same_bytes;
 
 // The index of the first b of s from `from` on, or s's length where there is none. Two bytes a turn: such searches are most of what the
 // reader does.
@@ -96,23 +97,6 @@ pub fn number(s: &[u8]) -> Num
     Num::Value { value: v }
 }
 
-// Whether a and b hold the same bytes.
-pub fn same_bytes(a: &[u8], b: &[u8]) -> bool
-    ensures { λ r. ⌜ r ≡ same (now (a .entry)) (now (b .entry)) ⌝ }
-{
-    if a.len() != b.len() {
-        return false;
-    }
-    let mut i = 0;
-    while i < a.len() {
-        if a[i] != b[i] {
-            return false;
-        }
-        i += 1;
-    }
-    true
-}
-
 // The kind of line that a word opens: 1 procs, 2 policy, 3 task, 4 end, 5 release; 0 where it opens none.
 pub fn word_kind(w: &[u8]) -> u32
     ensures { λ r. ⌜ r ≡ wordKind (now (w .entry)) ⌝ }
@@ -149,13 +133,10 @@ pub fn procs_fields(s: &[u8]) -> Line
 pub fn policy_fields(s: &[u8]) -> Line
     ensures { λ r. ⌜ r ≡ policyIn (now (s .entry)) ⌝ }
 {
-    if same_bytes(s, b"edf") {
-        return Line::Policy { policy: 0 };
-    }
-    if same_bytes(s, b"edf-cf") {
-        return Line::Policy { policy: 1 };
-    }
-    Line::Bad
+    let Num::Value { value } = policies::policy_of(s) else {
+        return Line::Bad;
+    };
+    Line::Policy { policy: value }
 }
 
 // The fields of a `task` line: T, C and D, each looked for in what follows the tab before it.

@@ -1,3 +1,5 @@
 pub mod Digits
 pub mod Fields
 pub mod LinesOf
+pub mod WordLists
+pub mod PolicyNames

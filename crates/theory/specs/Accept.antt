@@ -7,18 +7,20 @@ use Prim.Native.Nat.{ℕ, zero, suc, _+_, _-_, _≤_, _<_}
 use native.Mathlib.Decide.{decLt}
 use native.Mathlib.Omega.{arith}
 use lib.Dec.{eqb}
-use borrow.Author.Tests.{eqb-true, eq-eqb, le-leb}
+use borrow.Author.Tests.{eqb-true}
 use Rattle.rules.specs.declared.Fault.{Fault}
 use Rattle.rules.specs.Case.{Case, under, period, deadline, releaseCount, timeOf, nameOf}
 use Rattle.rules.specs.Counts.{freeCount}
-use Rattle.rules.specs.Refusals.{orNext, procsFault, policyFault, caseFault, Accepted}
+use Rattle.rules.specs.Refusals.{caseTests, caseFault, Accepted}
+use Rattle.rules.specs.Policies.{maxPolicy, demoting}
 use Rattle.rules.specs.Slot.{jobAt, isDemoted}
 use Rattle.rules.specs.Replay.{releasedIn, releasedAt, stateAt, slotsBy, finishBy, demotionBy}
 use Rattle.bridge.specs.Course.{Course, finishIn, demotionIn}
 use Rattle.bridge.specs.Stands.{replayOf, replay-state, replay-finished, replay-demoted}
-use Rattle.legal.specs.Legal.{Legal, next-clear}
+use Rattle.legal.specs.Legal.{Legal}
+use Rattle.legal.specs.Passing.{policy-none}
 use Rattle.lists.specs.Tests.{and-left, and-right}
-use Rattle.legal.specs.Firsts.{next-none}
+use Rattle.legal.specs.Firsts.{row-clear, row-none}
 use Rattle.bridge.specs.Jobs.{Stand}
 use Rattle.bridge.specs.Records.{taskAt, sole}
 use Rattle.theory.specs.Counting.{first-cong}
@@ -80,20 +82,12 @@ module _ (c : Case) (g : Legal c) where
   pub alone-at : (j : ℕ) → j < releaseCount (c .trace) → Alone (replayOf c) (taskAt c j) (timeOf (c .trace) j)
   alone-at j h = alone (replayOf c) lawful (taskAt c j) (timeOf (c .trace) j) (sole c g j h .released)
 
--- ---- an accepted case is accepted under either policy
-both-clear : (f g : Fault) → f .number ≡ 0 → g .number ≡ 0 → orNext f g .number ≡ 0
-both-clear f g p q = ap (λ (x : Fault). x .number) (next-none f g p) ∙ q
-
-policy-clear : (p : ℕ) → p ≤ 1 → policyFault p .number ≡ 0
-unfolding policyFault
-policy-clear p h = rw (le-leb p 1 h)
-
-pub accepted-under : (c : Case) → Accepted c → (p : ℕ) → p ≤ 1 → Accepted (under p c)
+-- ---- an accepted case is accepted under every policy
+pub accepted-under : (c : Case) → Accepted c → (p : ℕ) → p ≤ maxPolicy → Accepted (under p c)
 unfolding Accepted caseFault
 accepted-under c ok p h =
-    let x = next-clear (procsFault (c .procs)) _ ok in
-    let y = next-clear (policyFault (c .policy)) _ (x .1) in
-    both-clear (procsFault (c .procs)) _ (x .0) (both-clear (policyFault p) _ (policy-clear p h) (y .1))
+    let w = row-clear (caseTests c) ok in
+    ap (λ (f : Fault). f .number) (row-none (caseTests (under p c)) (w .0, (ap (λ (f : Fault). f .number) (policy-none p h), w .1 .1)))
 
 -- ---- finish and demotion of a record are those of the course, once the deadline has come
 module _ (c : Case) (i a e : ℕ) (come : a + deadline (c .table) i ≤ e) where
@@ -122,10 +116,10 @@ module _ (c : Case) (g : Legal c) (j : ℕ) (h : j < releaseCount (c .trace)) (e
       rw (finish-same c i a e come, demotion-same c i a e come, ← (replay-state c (a + deadline (c .table) i)))
       (at-deadline (replayOf c) i a (alone-at c g j h))
 
-  -- under EDF-CF it is not there as a demoted one
-  pub none-demoted-due : c .policy ≡ 1 → isDemoted (jobAt (stateAt c (a + deadline (c .table) i)) i) ≡ true → ⊥
+  -- under a policy that demotes it is not there as a demoted one
+  pub none-demoted-due : demoting (c .policy) ≡ true → isDemoted (jobAt (stateAt c (a + deadline (c .table) i)) i) ≡ true → ⊥
   unfolding freeCount
   none-demoted-due cf =
       rw (← (replay-state c (a + deadline (c .table) i)))
-      (none-demoted (replayOf c) i a (alone-at c g j h) (eq-eqb (c .policy) 1 cf) e (replay-attends c e) come
+      (none-demoted (replayOf c) i a (alone-at c g j h) cf e (replay-attends c e) come
       (enough (replayOf c) (lawful c g) a (deadline (c .table) i)))

@@ -1,20 +1,20 @@
 -- Demand 3, proved of the definitions of rules: what document 01's steps promise of every accepted case and of every job whose deadline is
 -- not after the end. The statements are about the slots and records of the replay itself; parts 1 and 2 stand first for any course.
 use mathlib.Core.Path.{_≡_, refl, ap, sym, _∙_}
-use mathlib.Core.Bool.{Bool, true, false≢true, true≢false}
+use mathlib.Core.Bool.{Bool, true, false, true≢false}
 use mathlib.Core.Logic.{inl, inr}
 use Prim.Native.Nat.{ℕ, _+_, _≤_, _<_}
 use native.Mathlib.Omega.{arith}
 use lib.Dec.{leb}
-use borrow.Author.Tests.{eq-eqb}
 use Rattle.rules.specs.declared.Job.{Job}
-use Rattle.rules.specs.declared.Job.the-variants.{Idle, Normal, Demoted}
+use Rattle.rules.specs.declared.Job.the-variants.{Idle, Normal}
 use Rattle.rules.specs.Words.{countIn}
 use Rattle.rules.specs.Case.{Case, under, deadline, releaseCount, timeOf}
 use Rattle.rules.specs.Counts.{count, freeCount}
 use Rattle.rules.specs.Refusals.{Accepted}
-use Rattle.rules.specs.Slot.{jobAt, isPresent, isDemoted}
-use Rattle.rules.specs.Replay.{stateAt, contentionFreeAt, finishBy, demotionBy, verdictBy, verdictOf, recordBy}
+use Rattle.rules.specs.Policies.{edf, edfCf, demoting}
+use Rattle.rules.specs.Slot.{jobAt, isPresent, isDemoted, freeCountIn}
+use Rattle.rules.specs.Replay.{setupIn, stateAt, contentionFreeAt, finishBy, demotionBy, verdictBy, verdictOf, recordBy}
 use Rattle.bridge.specs.Jobs.{Stand}
 use Rattle.bridge.specs.Course.{Course, contentionFreeIn, finishedIn, finishIn, demotionIn}
 use Rattle.bridge.specs.Stands.{replayOf}
@@ -31,9 +31,9 @@ use Rattle.theory.specs.Verdicts.{met-by-finish, finish-of-met}
 
 -- ---- one job
 
--- 2 for one job with any free count. A job is released at a with execution C ≥ 1 and free count F, and its slots go by steps 3 to 6 of
--- EDF-CF. If F is at most the number of contention-free slots among its first D, and it is worked in each of these that finds it there,
--- then, once demoted, it is finished after D slots. How F comes about is not asked, nor what the other jobs do.
+-- 2 for one job with any free count. A job is released at a with execution C ≥ 1 and free count F, and its slots go by steps 3 to 6 of a
+-- policy that demotes. If F is at most the number of contention-free slots among its first D, and it is worked in each of these that
+-- finds it there, then, once demoted, it is finished after D slots. How F comes about is not asked, nor what the other jobs do.
 pub any-count-finishes : (calm works : ℕ → Bool) (a C F due D : ℕ) → 1 ≤ C → Attended calm works a (Normal C F due) D → F ≤ countIn calm a D
     → (n : ℕ) → n ≤ D → isDemoted (story calm works a (Normal C F due) n) ≡ true → story calm works a (Normal C F due) D ≡ Idle
 any-count-finishes calm works a C F due D some att enough n h low = low-finishes calm works a C F due D some att enough n h low
@@ -47,15 +47,16 @@ course-free-slots k g a l = enough k g a l
 -- 2 for a course. A job of the task at i is released at a, and nothing more of the task before that job's deadline. If its free count is
 -- at most the number of contention-free slots from release to deadline, and every job that is there in a contention-free slot is worked
 -- in it, then the job, once demoted, finishes by its deadline. What the other tasks release is not asked.
-pub course-demoted-finishes : (k : Course) (e i a : ℕ) → Alone k i a → k .setup .policy ≡ 1 → Attends k e → a + deadline (k .setup .table) i ≤ e
-    → freeCount (k .setup .procs) (k .setup .table) i ≤ countIn (contentionFreeIn k) a (deadline (k .setup .table) i) → 0 < demotionIn k i a
+pub course-demoted-finishes : (k : Course) (e i a : ℕ) → Alone k i a → demoting (k .setup .policy) ≡ true → Attends k e
+    → a + deadline (k .setup .table) i ≤ e
+    → freeCountIn (k .setup) i ≤ countIn (contentionFreeIn k) a (deadline (k .setup .table) i) → 0 < demotionIn k i a
     → (a < finishIn k i a) × (finishIn k i a ≤ a + deadline (k .setup .table) i)
 unfolding finishIn
 course-demoted-finishes k e i a s cf att come enough d =
-    first-in (λ t. finishedIn k t i) a (deadline (k .setup .table) i) (demoted-finishes k i a s (eq-eqb (k .setup .policy) 1 cf) e att come enough d)
+    first-in (λ t. finishedIn k t i) a (deadline (k .setup .table) i) (demoted-finishes k i a s cf e att come enough d)
 
 -- 2 for a course with lawful releases: by part 1 document 01's count is never too high
-pub course-demoted-meets : (k : Course) (e i a : ℕ) → Lawful k → k .setup .policy ≡ 1 → Attends k e → k .released a i ≡ true
+pub course-demoted-meets : (k : Course) (e i a : ℕ) → Lawful k → demoting (k .setup .policy) ≡ true → Attends k e → k .released a i ≡ true
     → a + deadline (k .setup .table) i ≤ e → 0 < demotionIn k i a → (a < finishIn k i a) × (finishIn k i a ≤ a + deadline (k .setup .table) i)
 unfolding freeCount
 course-demoted-meets k e i a g cf att r come d =
@@ -71,19 +72,19 @@ dueAt c j = timeOf (c .trace) j + deadline (c .table) (taskAt c j)
 abbrev pub Judged : Case → ℕ → Type 0
 Judged c j = (j < releaseCount (c .trace)) × (dueAt c j ≤ c .end)
 
--- 1. Of an accepted case, under its policy, be it EDF or EDF-CF: of the slots from a job's release to its deadline, at least its task's
--- free count are contention-free.
+-- 1. Of an accepted case, under its policy, whichever that is: of the slots from a job's release to its deadline, at least the free count
+-- that the policy gives it are contention-free.
 pub free-slots : (c : Case) → Accepted c → (j : ℕ) → Judged c j
-    → freeCount (c .procs) (c .table) (taskAt c j) ≤ countIn (contentionFreeAt c) (timeOf (c .trace) j) (deadline (c .table) (taskAt c j))
+    → freeCountIn (setupIn c) (taskAt c j) ≤ countIn (contentionFreeAt c) (timeOf (c .trace) j) (deadline (c .table) (taskAt c j))
 unfolding freeCount
 free-slots c ok j h =
     let a = timeOf (c .trace) j in
     let D = deadline (c .table) (taskAt c j) in
     omega (arith, course-free-slots (replayOf c) (lawful c (legal c ok)) a D, count-cong (contentionFreeIn (replayOf c)) (contentionFreeAt c) a D (λ t x y. replay-free c t))
 
--- 2. Of an accepted case under EDF-CF, whatever the other tasks release: a job whose record says that it was demoted has a record that
--- says met, with a finish after its release and not after its deadline.
-pub demoted-meets : (c : Case) → Accepted c → c .policy ≡ 1 → (j : ℕ) → Judged c j → 0 < recordBy c (c .end) j .demotion
+-- 2. Of an accepted case under a policy that demotes, whatever the other tasks release: a job whose record says that it was demoted has a
+-- record that says met, with a finish after its release and not after its deadline.
+pub demoted-meets : (c : Case) → Accepted c → demoting (c .policy) ≡ true → (j : ℕ) → Judged c j → 0 < recordBy c (c .end) j .demotion
     → (recordBy c (c .end) j .verdict ≡ 1) × (timeOf (c .trace) j < recordBy c (c .end) j .finish) × (recordBy c (c .end) j .finish ≤ dueAt c j)
 unfolding recordBy verdictBy
 demoted-meets c ok cf j h d =
@@ -96,14 +97,20 @@ demoted-meets c ok cf j h d =
     let some : 0 < finishBy c i a (c .end) = omega (arith, f, r .0) in
     (met-by-finish _ _ some, omega (arith, f, r .0), omega (arith, f, r .1))
 
--- 3. Of an accepted case: a job whose record under EDF says met has a record under EDF-CF that says met.
-pub edf-met-stays-met : (c : Case) → Accepted c → (j : ℕ) → Judged c j
-    → recordBy (under 0 c) (c .end) j .verdict ≡ 1 → recordBy (under 1 c) (c .end) j .verdict ≡ 1
+-- 3. Of an accepted case under a policy that demotes: a job whose record under EDF says met has a record that says met.
+pub edf-met-stays-met : (c : Case) → Accepted c → demoting (c .policy) ≡ true → (j : ℕ) → Judged c j
+    → recordBy (under edf c) (c .end) j .verdict ≡ 1 → recordBy c (c .end) j .verdict ≡ 1
 unfolding recordBy verdictBy
-edf-met-stays-met c ok j h e = go (stand-due (under 0 c) (g 0 (omega arith)) j (h .0) (c .end) (h .1)) (stand-due (under 1 c) (g 1 (omega arith)) j (h .0) (c .end) (h .1))
+edf-met-stays-met c ok cf j h e = go (stand-due E e-legal j (h .0) (c .end) (h .1)) (stand-due c c-legal j (h .0) (c .end) (h .1))
   where
-    g : (p : ℕ) → p ≤ 1 → Legal (under p c)
-    g p h = legal (under p c) (accepted-under c ok p h)
+    E : Case
+    E = under edf c
+
+    e-legal : Legal (under edf c)
+    e-legal = legal (under edf c) (accepted-under c ok edf (omega arith))
+
+    c-legal : Legal c
+    c-legal = legal c ok
 
     i : ℕ
     i = taskAt c j
@@ -111,20 +118,30 @@ edf-met-stays-met c ok j h e = go (stand-due (under 0 c) (g 0 (omega arith)) j (
     a : ℕ
     a = timeOf (c .trace) j
 
-    -- what is idle under EDF and there under EDF-CF is demoted
-    only-demoted : (x y : Job) → Dom x y → x ≡ Idle → isPresent y ≡ true → isDemoted y ≡ true
-    only-demoted x Idle d z p = absurd (false≢true p)
-    only-demoted x (Demoted l u) d z p = refl
-    only-demoted x (Normal l f u) d z p = absurd (true≢false (sym (d .0) ∙ ap isPresent z))
+    due : ℕ
+    due = a + deadline (c .table) i
 
-    go : Stand (finishBy (under 0 c) i a (c .end)) (demotionBy (under 0 c) i a (c .end)) (a + deadline (c .table) i) (jobAt (stateAt (under 0 c) (a + deadline (c .table) i)) i)
-        → Stand (finishBy (under 1 c) i a (c .end)) (demotionBy (under 1 c) i a (c .end)) (a + deadline (c .table) i) (jobAt (stateAt (under 1 c) (a + deadline (c .table) i)) i)
-        → verdictOf (finishBy (under 1 c) i a (c .end)) (leb (a + deadline (c .table) i) (c .end)) ≡ 1
+    -- what is idle under EDF and there under the policy is demoted
+    only-demoted : (x y : Job) → Dom x y → x ≡ Idle → isPresent y ≡ true → isDemoted y ≡ true
+    only-demoted x y d z p = low (isDemoted y) refl
+      where
+        low : (b : Bool) → isDemoted y ≡ b → isDemoted y ≡ true
+        low true q = q
+        low false q = absurd (true≢false (sym (d p q .there) ∙ ap isPresent z))
+
+    go : Stand (finishBy E i a (c .end)) (demotionBy E i a (c .end)) due (jobAt (stateAt E due) i)
+        → Stand (finishBy c i a (c .end)) (demotionBy c i a (c .end)) due (jobAt (stateAt c due) i)
+        → verdictOf (finishBy c i a (c .end)) (leb due (c .end)) ≡ 1
     go (inl (z, v)) y =
-        let some : 0 < finishBy (under 0 c) i a (c .end) = finish-of-met _ _ e in
+        let some : 0 < finishBy E i a (c .end) = finish-of-met _ _ e in
         absurd (omega arith)
     go (inr (p, z)) (inr (q, y)) = met-by-finish _ _ q
     go (inr (p, z)) (inl (y, v)) =
-        absurd (none-demoted-due (under 1 c) (g 1 (omega arith)) j (h .0) (c .end) (h .1) refl
-        (only-demoted (jobAt (stateAt (under 0 c) (a + deadline (c .table) i)) i) (jobAt (stateAt (under 1 c) (a + deadline (c .table) i)) i)
-        (dominated c (a + deadline (c .table) i) i (sole (under 1 c) (g 1 (omega arith)) j (h .0) .task)) z (v .there)))
+        absurd (none-demoted-due c c-legal j (h .0) (c .end) (h .1) cf
+        (only-demoted (jobAt (stateAt E due) i) (jobAt (stateAt c due) i)
+        (dominated c cf due i (sole c c-legal j (h .0) .task)) z (v .there)))
+
+-- 3 of document 01's two policies, whatever the case's own: met under EDF is met under EDF-CF
+pub edf-met-stays-met-cf : (c : Case) → Accepted c → (j : ℕ) → Judged c j
+    → recordBy (under edf c) (c .end) j .verdict ≡ 1 → recordBy (under edfCf c) (c .end) j .verdict ≡ 1
+edf-met-stays-met-cf c ok j h e = edf-met-stays-met (under edfCf c) (accepted-under c ok edfCf (omega arith)) refl j h e

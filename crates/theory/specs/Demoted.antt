@@ -9,8 +9,8 @@ use native.Mathlib.Omega.{arith}
 use Rattle.rules.specs.declared.Job.{Job}
 use Rattle.rules.specs.Words.{countIn}
 use Rattle.rules.specs.Case.{execution, deadline}
-use Rattle.rules.specs.Counts.{freeCount}
-use Rattle.rules.specs.Slot.{jobAt, isPresent, isDemoted, isCf, releasedJob}
+use Rattle.rules.specs.Policies.{demoting}
+use Rattle.rules.specs.Slot.{jobAt, isPresent, isDemoted, freeCountIn, releasedJob}
 use Rattle.bridge.specs.Jobs.{Stand, written}
 use Rattle.bridge.specs.Course.{Course, stateIn, contentionFreeIn, finishIn, demotionIn, foundIn, next-in, Sole, left-stands, found-next}
 use Rattle.theory.specs.Lawful.{Attends, present-in}
@@ -34,7 +34,7 @@ module _ (k : Course) (i a : ℕ) (s : Alone k i a) where
       let y : suc (D - 1) ≡ D = omega (arith, s .lasts) in
       rw y at (rw z at (left-stands k i a (s .sole) (D - 1) (omega (arith, s .lasts))))
 
-  module _ (cf : isCf (k .setup) ≡ true) (e : ℕ) (attends : Attends k e) (come : a + D ≤ e) where
+  module _ (cf : demoting (k .setup .policy) ≡ true) (e : ℕ) (attends : Attends k e) (come : a + D ≤ e) where
     -- the job's own story
     abbrev told : ℕ → Job
     told n = story (contentionFreeIn k) (λ t. k .works t i) a (releasedJob (k .setup) a i) n
@@ -58,7 +58,7 @@ module _ (k : Course) (i a : ℕ) (s : Alone k i a) where
     attended : Attended (contentionFreeIn k) (λ t. k .works t i) a (releasedJob (k .setup) a i) D
     attended n h q p = attends (a + n) i (omega arith) (s .sole .task) q (present-in k (a + n) i (s .sole .task) ∙ ap isPresent (found-told n h) ∙ p)
 
-    module _ (enough : freeCount (k .setup .procs) (k .setup .table) i ≤ countIn (contentionFreeIn k) a (deadline (k .setup .table) i)) where
+    module _ (enough : freeCountIn (k .setup) i ≤ countIn (contentionFreeIn k) a (deadline (k .setup .table) i)) where
       -- at its deadline the job is not there as a demoted one
       pub none-demoted : isDemoted (jobAt (stateIn k (a + deadline (k .setup .table) i)) i) ≡ true → ⊥
       none-demoted = rw due-told (none-low (contentionFreeIn k) (λ t. k .works t i) a (execution (k .setup .table) i) _ (a + D) D (s .some) attended enough)

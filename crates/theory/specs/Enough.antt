@@ -10,13 +10,14 @@ use native.Mathlib.Omega.{arith}
 use lib.Dec.{ltb, leb}
 use borrow.Author.Tests.{eq-eqb}
 use Rattle.rules.specs.declared.Job.{Job}
-use Rattle.rules.specs.declared.Job.the-variants.{Idle, Normal, Demoted}
+use Rattle.rules.specs.declared.Job.the-variants.{Idle}
 use Rattle.rules.specs.Words.{pick, bit, sum, countIn}
 use Rattle.rules.specs.Case.{taskCount, period, deadline}
 use Rattle.rules.specs.Counts.{availability, availabilities, count}
-use Rattle.rules.specs.Slot.{jobAt, isPresent, dueOf, isMissed, contentionFree, workedJob, lastUnit}
+use Rattle.rules.specs.Slot.{jobAt, isPresent, dueOf, isMissed, contentionFree, workedJob}
 use Rattle.bridge.specs.Steps.{judgedJob}
 use Rattle.lists.specs.Sums.{sum-split, sum-mono, sum-const, sum-swap}
+use Rattle.bridge.specs.Jobs.{went-on}
 use Rattle.bridge.specs.Course.{Course, stateIn, contentionFreeIn, foundIn, openIn, course-first, next-in}
 use Rattle.theory.specs.Counting.{count-cong, count-mono, count-none, over-count, count-both}
 use Rattle.theory.specs.Window.{span-in, spanned, window}
@@ -35,17 +36,7 @@ pub record From (k : Course) (i late early : ℕ) (j : Job) : Type 0 where
 -- what work leaves of a job was there before it, with the same deadline
 worked-kept : (b : Bool) (o : Job) → isPresent (pick b (workedJob o) o) ≡ true → (isPresent o ≡ true) × (dueOf (pick b (workedJob o) o) ≡ dueOf o)
 worked-kept false o e = (e, refl)
-worked-kept true Idle e = (e, refl)
-worked-kept true (Normal l f d) e = go (lastUnit l) e
-  where
-    go : (b : Bool) → isPresent (pick b Idle (Normal (l - 1) f d)) ≡ true → (true ≡ true) × (dueOf (pick b Idle (Normal (l - 1) f d)) ≡ d)
-    go true e = absurd (false≢true e)
-    go false e = (refl, refl)
-worked-kept true (Demoted l d) e = go (lastUnit l) e
-  where
-    go : (b : Bool) → isPresent (pick b Idle (Demoted (l - 1) d)) ≡ true → (true ≡ true) × (dueOf (pick b Idle (Demoted (l - 1) d)) ≡ d)
-    go true e = absurd (false≢true e)
-    go false e = (refl, refl)
+worked-kept true o e = let w = went-on o e in (sym (w .there) ∙ e, w .due)
 
 module _ (k : Course) (i : ℕ) where
   abbrev D : ℕ

@@ -9,6 +9,7 @@ use lib.Dec.{ltb}
 use borrow.Author.Tests.{lt-ltb}
 use Rattle.rules.specs.Words.{sum, countIn, firstIn, tab, mapFrom}
 use Rattle.rules.specs.Case.{Case, caseOf}
+use Rattle.rules.specs.Policies.{edf, edfCf}
 use Rattle.rules.specs.Counts.{availability, availabilities, count, freeCount}
 use Rattle.rules.specs.Refusals.{orNext, firstOf, procsFault, policyFault, tableFault, taskFault, endFault, traceFault, inOrder, lastBefore, releaseFault, caseFault, Accepted}
 use Rattle.rules.specs.Slot.{present, judged, joined, demoted, jobsNow, contentionFree, lowered, opened, jobBefore, rank, chosen, worked, after, ran, finished, demotedNow}
@@ -28,18 +29,18 @@ tight policy = caseOf 1 policy (4 ∷ 1 ∷ 4 ∷ 4 ∷ 3 ∷ 3 ∷ []) 4 (0 ∷
 
 -- m = 2, tasks (10, 2, 6), (10, 2, 3) and (10, 3, 7), all released at 0: task 1 runs in slot 0, where N = m + 1
 abbrev pub crowded : Case
-crowded = caseOf 2 1 (10 ∷ 2 ∷ 6 ∷ 10 ∷ 2 ∷ 3 ∷ 10 ∷ 3 ∷ 7 ∷ []) 10 (0 ∷ 1 ∷ 0 ∷ 2 ∷ 0 ∷ 3 ∷ [])
+crowded = caseOf 2 edfCf (10 ∷ 2 ∷ 6 ∷ 10 ∷ 2 ∷ 3 ∷ 10 ∷ 3 ∷ 7 ∷ []) 10 (0 ∷ 1 ∷ 0 ∷ 2 ∷ 0 ∷ 3 ∷ [])
 
 -- the cases are accepted
-pub accepted-A : Accepted (caseA 1 10)
+pub accepted-A : Accepted (caseA edfCf 10)
 unfolding Accepted caseFault orNext firstOf procsFault policyFault tableFault taskFault endFault traceFault inOrder lastBefore releaseFault
 accepted-A = refl
 
-pub accepted-A-cut : Accepted (caseA 1 1)
+pub accepted-A-cut : Accepted (caseA edfCf 1)
 unfolding Accepted caseFault orNext firstOf procsFault policyFault tableFault taskFault endFault traceFault inOrder lastBefore releaseFault
 accepted-A-cut = refl
 
-pub accepted-tight : Accepted (tight 1)
+pub accepted-tight : Accepted (tight edfCf)
 unfolding Accepted caseFault orNext firstOf procsFault policyFault tableFault taskFault endFault traceFault inOrder lastBefore releaseFault
 accepted-tight = refl
 
@@ -48,8 +49,8 @@ unfolding Accepted caseFault orNext firstOf procsFault policyFault tableFault ta
 accepted-crowded = refl
 
 -- set A: task 3 is missed under EDF and met under EDF-CF; task 1 is demoted at 0 and met at 2, where EDF meets it at 1
-pub set-A : (recordBy (caseA 0 10) 10 2 ≡ recordOf 2 0 0) × (recordBy (caseA 1 10) 10 2 ≡ recordOf 1 5 0)
-    × (recordBy (caseA 1 10) 10 0 ≡ recordOf 1 2 1) × (recordBy (caseA 0 10) 10 0 ≡ recordOf 1 1 0)
+pub set-A : (recordBy (caseA edf 10) 10 2 ≡ recordOf 2 0 0) × (recordBy (caseA edfCf 10) 10 2 ≡ recordOf 1 5 0)
+    × (recordBy (caseA edfCf 10) 10 0 ≡ recordOf 1 2 1) × (recordBy (caseA edf 10) 10 0 ≡ recordOf 1 1 0)
 unfolding sum firstIn tab mapFrom availability availabilities count freeCount
     present judged joined demoted jobsNow contentionFree lowered opened jobBefore rank chosen worked after ran finished demotedNow
     releasedIn stateFrom stateAt ranAt finishedAt demotedAt slotsBy finishBy demotionBy verdictBy recordBy
@@ -57,8 +58,8 @@ set-A = (refl, refl, refl, refl)
 
 -- the free count is reached exactly: task 1's is 1, and of its 4 slots just 1 is contention-free, under either policy. The job is demoted
 -- at its release and finishes at its deadline.
-pub exactly-reached : (freeCount 1 (tight 1 .table) 0 ≡ 1) × (countIn (contentionFreeAt (tight 0)) 0 4 ≡ 1) × (countIn (contentionFreeAt (tight 1)) 0 4 ≡ 1)
-    × (recordBy (tight 1) 4 0 ≡ recordOf 1 4 1)
+pub exactly-reached : (freeCount 1 (tight edfCf .table) 0 ≡ 1) × (countIn (contentionFreeAt (tight edf)) 0 4 ≡ 1)
+    × (countIn (contentionFreeAt (tight edfCf)) 0 4 ≡ 1) × (recordBy (tight edfCf) 4 0 ≡ recordOf 1 4 1)
 unfolding sum firstIn tab mapFrom availability availabilities count freeCount
     present judged joined demoted jobsNow contentionFree lowered opened jobBefore rank chosen worked after ran finished demotedNow
     releasedIn stateFrom stateAt ranAt finishedAt demotedAt contentionFreeAt slotsBy finishBy demotionBy verdictBy recordBy
@@ -74,7 +75,7 @@ demoted-later = (refl, refl)
 
 -- set A cut at time 1: task 1, whose deadline is 4, is met under EDF, and under EDF-CF demoted and open. Nothing is promised of a job
 -- whose deadline is after the end, and parts 2 and 3 would be false of it.
-pub stays-open : (recordBy (caseA 0 1) 1 0 ≡ recordOf 1 1 0) × (recordBy (caseA 1 1) 1 0 ≡ recordOf 3 0 1)
+pub stays-open : (recordBy (caseA edf 1) 1 0 ≡ recordOf 1 1 0) × (recordBy (caseA edfCf 1) 1 0 ≡ recordOf 3 0 1)
 unfolding sum firstIn tab mapFrom availability availabilities count freeCount
     present judged joined demoted jobsNow contentionFree lowered opened jobBefore rank chosen worked after ran finished demotedNow
     releasedIn stateFrom stateAt ranAt finishedAt demotedAt slotsBy finishBy demotionBy verdictBy recordBy
@@ -82,11 +83,11 @@ stays-open = (refl, refl)
 
 -- ---- a course that is no replay: set A with a scheduler that works nothing in slot 0, the only one with contention
 abbrev pub idler : Course
-idler = record { setup = setupIn (caseA 1 10); released = releasedAt (caseA 1 10); works = λ t i. ltb 0 t }
+idler = record { setup = setupIn (caseA edfCf 10); released = releasedAt (caseA edfCf 10); works = λ t i. ltb 0 t }
 
 pub idler-lawful : Lawful idler
 idler-lawful =
-    let g = lawful (caseA 1 10) (legal (caseA 1 10) accepted-A) in
+    let g = lawful (caseA edfCf 10) (legal (caseA edfCf 10) accepted-A) in
     record { tasks-few = g .tasks-few; good = g .good; named = g .named; separate = g .separate }
 
 idler-busy : contentionFreeIn idler 0 ≡ false

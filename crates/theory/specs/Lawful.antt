@@ -6,7 +6,8 @@ use native.Mathlib.Omega.{arith}
 use borrow.Author.Tests.{leb-true}
 use Rattle.rules.specs.Words.{countIn}
 use Rattle.rules.specs.Case.{Case, taskCount, period, execution, deadline}
-use Rattle.rules.specs.Slot.{isPresent, isDemoted, present, isCf, isDemotedNow, readied, contentionFree, jobsNow, ran}
+use Rattle.rules.specs.Policies.{demoting}
+use Rattle.rules.specs.Slot.{isPresent, isDemoted, present, isDemotedNow, readied, contentionFree, jobsNow, ran}
 use Rattle.rules.specs.Replay.{setupIn, ranAt, contentionFreeAt}
 use Rattle.bridge.specs.Steps.{readied-full, readied-at, demoted-at, demotedJob}
 use Rattle.bridge.specs.Jobs.{Kept, kept-demoted, kept-opened}
@@ -30,8 +31,9 @@ pub record Lawful (k : Course) : Type 0 where
 -- ---- the jobs of a slot
 module _ (k : Course) where
   module _ (t i : ℕ) (l : i < 32) where
-    pub kept-in : Kept (foundIn k t i) (openIn k t i) (isDemoted (foundIn k t i) || (isCf (k .setup) && isDemotedNow (foundIn k t i)))
-    kept-in = kept-opened (isCf (k .setup)) (isCf (k .setup) && contentionFreeIn k t) (foundIn k t i)
+    pub kept-in : Kept (foundIn k t i) (openIn k t i)
+        (isDemoted (foundIn k t i) || (demoting (k .setup .policy) && isDemotedNow (foundIn k t i)))
+    kept-in = kept-opened (demoting (k .setup .policy)) (demoting (k .setup .policy) && contentionFreeIn k t) (foundIn k t i)
 
     pub present-in : present (openedIn k t) i ≡ isPresent (foundIn k t i)
     unfolding present
@@ -41,8 +43,8 @@ module _ (k : Course) where
     unfolding present
     counted-in =
         ap isPresent (demoted-at i l (k .setup) (readied (k .setup) t (k .released t) (stateIn k t)) (readied-full _ _ _ _ (course-full k t)) ∙
-        ap (demotedJob (isCf (k .setup))) (readied-at i l (k .setup) t (k .released t) (stateIn k t) (course-full k t))) ∙
-        kept-demoted (isCf (k .setup)) (foundIn k t i) .there
+        ap (demotedJob (demoting (k .setup .policy))) (readied-at i l (k .setup) t (k .released t) (stateIn k t) (course-full k t))) ∙
+        kept-demoted (demoting (k .setup .policy)) (foundIn k t i) .there
 
   -- steps 3 and 4 change no job's presence: N is the number of jobs that steps 1 and 2 leave, and of those that step 5 sees
   pub jobs-found : (t : ℕ) → jobsNow (countedIn k t) ≡ countIn (λ i. isPresent (foundIn k t i)) 0 32

@@ -17,3 +17,4 @@ pub mod Endings
 pub mod Laws
 pub mod Returned
 pub mod Decided
+pub mod ToldOnce

@@ -1,7 +1,7 @@
 -- The order of step 5 (`jobBefore`, `rank`, `chosen` of rules, Slot): any two jobs that are there have one, so that exactly min(m, N) run;
 -- and in a contention-free slot all do. Cited by Course, for parts 1 and 2 of demand 3, and by Laws.
 use mathlib.Core.Path.{_≡_, refl, _∙_}
-use mathlib.Core.Bool.{Bool, true, false, _&&_, _||_, and-false, false≢true, true≢false}
+use mathlib.Core.Bool.{Bool, true, false, _&&_, _||_, and-false, false≢true}
 use mathlib.Core.Logic.{_⊎_, inl, inr}
 use Prim.Native.Nat.{ℕ, min, _≤_, _<_}
 use native.Mathlib.Nat.{le-refl}
@@ -10,10 +10,10 @@ use native.Mathlib.Omega.{arith}
 use lib.Dec.{eqb, ltb}
 use borrow.Author.Tests.{ltb-true, eqb-true, eq-eqb, le-ltb, lt-ltb}
 use Rattle.rules.specs.declared.Job.{Job}
-use Rattle.rules.specs.declared.Job.the-variants.{Idle, Normal, Demoted}
 use Rattle.rules.specs.declared.Run.{Run}
 use Rattle.rules.specs.Words.{countIn}
 use Rattle.rules.specs.Slot.{Setup, jobAt, isPresent, isDemoted, kind, dueOf, inTurn, present, jobsNow, jobBefore, comesBefore, rank, chosen}
+use Rattle.bridge.specs.Jobs.{kind-normal, kind-demoted}
 use Rattle.lists.specs.Tests.{and-left, and-right}
 use Rattle.theory.specs.Counting.{and-both, count-lt, ranked}
 
@@ -127,11 +127,8 @@ module _ (g : Setup) (now : ℕ) (r : Run) where
   pub demoted-last : (j i : ℕ) → j < 32 → chosen g now r i ≡ true → isDemoted (jobAt r i) ≡ true → present r j ≡ true → isDemoted (jobAt r j) ≡ false
       → chosen g now r j ≡ true
   unfolding present jobBefore
-  demoted-last j i l e low there high = chosen-down j i l (go (jobAt r j) (jobAt r i) there high low) e
-    where
-      go : (a b : Job) → isPresent a ≡ true → isDemoted a ≡ false → isDemoted b ≡ true → jobBefore (g .policy) now a j b i ≡ true
-      go Idle b x y z = absurd (false≢true x)
-      go (Demoted l d) b x y z = absurd (true≢false y)
-      go (Normal l f d) Idle x y z = absurd (false≢true z)
-      go (Normal l f d) (Normal k u v) x y z = absurd (false≢true z)
-      go (Normal l f d) (Demoted k u) x y z = refl
+  demoted-last j i l e low there high =
+      let first : comesBefore g now r j i ≡ true =
+      rw (there, kind-normal (g .policy) now (jobAt r j) there high, kind-demoted (g .policy) now (jobAt r i) low)
+      in
+      chosen-down j i l first e

@@ -1,6 +1,7 @@
--- Demand 3 said of what the replay call returns: of the numbers in its room, for every answer that meets its contract (`Replays` of
--- bridge, Decided). Verdict, finish and demotion are read from the room here, and not from the definition of a record.
+-- Demand 3 said of what the replay call returns: of the numbers in its room, for every answer that keeps its promise (`ReplayPromise` of
+-- rules, Calls). Verdict, finish and demotion are read from the room here, and not from the definition of a record.
 use mathlib.Core.Path.{_≡_, sym, _∙_}
+use mathlib.Core.Bool.{true}
 use mathlib.Core.List.{List, _++_}
 use Prim.Native.Nat.{ℕ, _+_, _*_, _≤_, _<_}
 use lib.ListN.{length, getD, drop}
@@ -8,16 +9,16 @@ use Rattle.rules.specs.declared.Replayed.{Replayed}
 use Rattle.rules.specs.Words.{countIn}
 use Rattle.rules.specs.Limits.{recordWidth}
 use Rattle.rules.specs.Case.{Case, under, deadline, releaseCount, timeOf}
-use Rattle.rules.specs.Counts.{freeCount}
+use Rattle.rules.specs.Policies.{edf, demoting}
+use Rattle.rules.specs.Slot.{freeCountIn}
 use Rattle.rules.specs.Refusals.{caseFault, replayFault, Accepted}
-use Rattle.rules.specs.Replay.{contentionFreeAt, recordBy, records, numbers}
+use Rattle.rules.specs.Replay.{setupIn, contentionFreeAt, recordBy, records, numbers}
 use Rattle.rules.specs.Answers.{result, replayedAs}
-use Rattle.rules.specs.Calls.{roomAfter, replayAnswer, replayRoom}
+use Rattle.rules.specs.Calls.{roomAfter, replayAnswer, replayRoom, ReplayPromise}
 use Rattle.legal.specs.Legal.{next-clear}
 use Rattle.bridge.specs.Records.{taskAt}
 use Rattle.bridge.specs.Notes.{held-verdict, held-finish, held-demotion}
 use Rattle.legal.specs.Settled.{result-clear, kept-new}
-use Rattle.theory.specs.Decided.{Replays}
 use Rattle.theory.specs.Demand3.{dueAt, Judged, free-slots, demoted-meets, edf-met-stays-met}
 
 -- the three numbers that a room holds for release j
@@ -35,7 +36,7 @@ pub record Returned (c : Case) (later : List ℕ) : Type 0 where
   pub lent : List ℕ
   pub said : Replayed
   pub totals : List ℕ
-  pub meets : Replays c lent said later
+  pub meets : ReplayPromise c lent said later
   pub gave : replayedAs said ≡ result totals
 
 module _ (c : Case) (later : List ℕ) (w : Returned c later) where
@@ -63,18 +64,20 @@ module _ (c : Case) (later : List ℕ) (w : Returned c later) where
 
 -- 1. at least the free count of the slots from release to deadline are contention-free
 pub returned-free-slots : (c : Case) (later : List ℕ) → Returned c later → (j : ℕ) → Judged c j
-    → freeCount (c .procs) (c .table) (taskAt c j) ≤ countIn (contentionFreeAt c) (timeOf (c .trace) j) (deadline (c .table) (taskAt c j))
+    → freeCountIn (setupIn c) (taskAt c j) ≤ countIn (contentionFreeAt c) (timeOf (c .trace) j) (deadline (c .table) (taskAt c j))
 returned-free-slots c later w j h = free-slots c (accepted c later w) j h
 
 -- 2. a job that the room says was demoted is said to be met, with a finish not after its deadline
-pub returned-demoted-meets : (c : Case) (later : List ℕ) → Returned c later → c .policy ≡ 1 → (j : ℕ) → Judged c j → 0 < demotionIn later j
+pub returned-demoted-meets : (c : Case) (later : List ℕ) → Returned c later → demoting (c .policy) ≡ true → (j : ℕ) → Judged c j
+    → 0 < demotionIn later j
     → (verdictIn later j ≡ 1) × (timeOf (c .trace) j < finishIn later j) × (finishIn later j ≤ dueAt c j)
 returned-demoted-meets c later w cf j h d =
     rw (verdict-returned c later w j (h .0), finish-returned c later w j (h .0))
     (demoted-meets c (accepted c later w) cf j h (rw (demotion-returned c later w j (h .0)) at d))
 
--- 3. a job that the replay under EDF says is met, the replay under EDF-CF says is met
-pub returned-edf-met-stays-met : (c : Case) (edf cf : List ℕ) → Returned (under 0 c) edf → Returned (under 1 c) cf → (j : ℕ) → Judged c j
-    → verdictIn edf j ≡ 1 → verdictIn cf j ≡ 1
-returned-edf-met-stays-met c edf cf v w j h e =
-    verdict-returned (under 1 c) cf w j (h .0) ∙ edf-met-stays-met (under 1 c) (accepted (under 1 c) cf w) j h (sym (verdict-returned (under 0 c) edf v j (h .0)) ∙ e)
+-- 3. a job that the replay under EDF says is met, the replay under a policy that demotes says is met
+pub returned-edf-met-stays-met : (c : Case) (first later : List ℕ) → Returned (under edf c) first → Returned c later
+    → demoting (c .policy) ≡ true → (j : ℕ) → Judged c j → verdictIn first j ≡ 1 → verdictIn later j ≡ 1
+returned-edf-met-stays-met c first later v w cf j h e =
+    verdict-returned c later w j (h .0) ∙
+    edf-met-stays-met c (accepted c later w) cf j h (sym (verdict-returned (under edf c) first v j (h .0)) ∙ e)

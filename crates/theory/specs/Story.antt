@@ -1,18 +1,19 @@
 -- Part 2 of demand 3 for one job and any count: whatever free count a job is given at its release, if that is no more than the
 -- contention-free slots up to its deadline and it is worked in each of them, then once demoted it finishes. The other jobs do not matter.
 -- Over steps 3 to 6 of rules, Slot; Demoted takes it to the states of a course.
-use mathlib.Core.Path.{_≡_, refl}
-use mathlib.Core.Bool.{Bool, true, false, false≢true}
+use mathlib.Core.Path.{_≡_, refl, sym, _∙_}
+use mathlib.Core.Bool.{Bool, true, false, _||_, false≢true}
+use mathlib.Core.Logic.{_⊎_, inl, inr}
 use Prim.Native.Nat.{ℕ, zero, suc, _+_, _-_, _≤_, _<_}
 use native.Mathlib.Nat.{add-zero, add-suc}
 use native.Mathlib.Omega.{arith}
-use lib.Dec.{eqb}
-use borrow.Author.Tests.{eqb-true, leb-false}
 use Rattle.rules.specs.declared.Job.{Job}
-use Rattle.rules.specs.declared.Job.the-variants.{Idle, Normal, Demoted}
+use Rattle.rules.specs.declared.Job.the-variants.{Idle, Normal}
 use Rattle.rules.specs.Words.{pick, bit, sum, countIn}
-use Rattle.rules.specs.Slot.{isPresent, isDemoted, loweredJob, lastUnit, workedJob}
+use Rattle.rules.specs.Slot.{isPresent, isDemoted, leftOf, freeOf, isDemotedNow, workedJob}
+use Rattle.lists.specs.Tests.{or-cases, or-left}
 use Rattle.bridge.specs.Steps.{openedJob}
+use Rattle.bridge.specs.Jobs.{Kept, kept-opened, free-opened, falls, GoesOn, went-on, demoted-there, idle-now}
 
 -- what the first n slots from a on make of a job under EDF-CF, by steps 3 to 6: `calm t` says whether the slot at t is contention-free,
 -- `works t` whether the job is worked in it
@@ -25,78 +26,68 @@ story calm works a j (suc n) =
 abbrev pub Attended : (ℕ → Bool) → (ℕ → Bool) → ℕ → Job → ℕ → Type 0
 Attended calm works a j D = (n : ℕ) → n < D → calm (a + n) ≡ true → isPresent (story calm works a j n) ≡ true → works (a + n) ≡ true
 
--- what a job of free count F is owed when s contention-free slots have been: a normal job still counts F less s; a demoted one has no
--- more left than that
+-- what is owed to a job of free count F that is there: it has something left; while normal it still counts F less s; once demoted it has
+-- no more left than F less u
+pub record Owes (F s u : ℕ) (j : Job) : Type 0 where
+  pub some : 1 ≤ leftOf j
+  pub counts : isDemoted j ≡ false → freeOf j ≡ F - s
+  pub covered : isDemoted j ≡ true → leftOf j ≤ F - u
+
+-- and so, where it is there, when s contention-free slots have been
 abbrev Owed : ℕ → ℕ → Job → Type 0
-Owed F s Idle = Unit {0}
-Owed F s (Normal l f d) = (1 ≤ l) × (f ≡ F - s)
-Owed F s (Demoted l d) = (1 ≤ l) × (l ≤ F - s)
+Owed F s j = isPresent j ≡ true → Owes F s s j
 
 -- ---- one slot, for any job
-normal-works : (F s l f d : ℕ) → f ≡ F - s → Owed F s (workedJob (Normal l f d))
-normal-works F s l f d e = go (lastUnit l) refl
+-- steps 3 and 4: a job that is demoted now has no more left than it still counted
+owed-opened : (F s : ℕ) (calm : Bool) (j : Job) → Owes F s s j → Owes F (s + bit calm) s (openedJob true calm j)
+owed-opened F s calm j o = record {
+  some = omega (arith, o .some, k .left);
+  counts = λ e.
+      let was = o .counts (or-left (isDemoted j) _ (sym (k .lowly) ∙ e)) in
+      omega (arith, free-opened true calm j e, was);
+  covered = λ e. covers (or-cases (isDemoted j) (isDemotedNow j) (sym (k .lowly) ∙ e));
+}
   where
-    go : (b : Bool) → lastUnit l ≡ b → Owed F s (pick b Idle (Normal (l - 1) f d))
-    go true q = tt
-    go false q = (omega (arith, leb-false l 1 q), e)
+    k : Kept j (openedJob true calm j) (isDemoted j || isDemotedNow j)
+    k = kept-opened true calm j
 
-demoted-works : (F s l d : ℕ) → l ≤ suc (F - s) → Owed F s (workedJob (Demoted l d))
-demoted-works F s l d e = go (lastUnit l) refl
-  where
-    go : (b : Bool) → lastUnit l ≡ b → Owed F s (pick b Idle (Demoted (l - 1) d))
-    go true q = tt
-    go false q = (omega (arith, leb-false l 1 q), omega arith)
+    covers : (isDemoted j ≡ true) ⊎ (isDemotedNow j ≡ true) → leftOf (openedJob true calm j) ≤ F - s
+    covers (inl e) = omega (arith, k .left, o .covered e)
+    covers (inr e) = let f = falls j e in omega (arith, k .left, f .within, o .counts (f .high))
+
+-- step 6: a job that goes on has one unit less left, which makes up for one slot
+owed-worked : (F s u : ℕ) (j n : Job) → s ≤ suc u → Owes F s u j → GoesOn j n → Owes F s s n
+owed-worked F s u j n h o w = record {
+  some = omega (arith, w .more, w .left);
+  counts = λ e. w .free ∙ o .counts (sym (w .lowly) ∙ e);
+  covered = λ e. omega (arith, o .covered (sym (w .lowly) ∙ e), w .left, w .more);
+}
 
 owed-slot : (F s : ℕ) (calm runs : Bool) (j : Job) → (calm ≡ true → isPresent j ≡ true → runs ≡ true) → Owed F s j
     → Owed F (s + bit calm) (pick runs (workedJob (openedJob true calm j)) (openedJob true calm j))
-owed-slot F s true true Idle h o = tt
-owed-slot F s true false Idle h o = tt
-owed-slot F s false true Idle h o = tt
-owed-slot F s false false Idle h o = tt
-owed-slot F s true false (Normal l f d) h o = absurd (false≢true (h refl refl))
-owed-slot F s true false (Demoted l d) h o = absurd (false≢true (h refl refl))
-owed-slot F s true true (Demoted l d) h o = demoted-works F (s + 1) l d (omega arith)
-owed-slot F s false true (Demoted l d) h o = let z : s + 0 ≡ s = omega arith in rw z (demoted-works F s l d (omega arith))
-owed-slot F s false false (Demoted l d) h o = let z : s + 0 ≡ s = omega arith in rw z o
-owed-slot F s true true (Normal l f d) h o = go (eqb f l) refl
+owed-slot F s calm true j h o p =
+    let w = went-on (openedJob true calm j) p in
+    let here = sym (kept-opened true calm j .there) ∙ sym (w .there) ∙ p in
+    owed-worked F (s + bit calm) s _ _ (most calm) (owed-opened F s calm j (o here)) w
   where
-    go : (b : Bool) → eqb f l ≡ b → Owed F (s + 1) (workedJob (loweredJob (pick b (Demoted l d) (Normal l f d))))
-    go true q = demoted-works F (s + 1) l d (omega (arith, eqb-true f l q))
-    go false q = normal-works F (s + 1) l (f - 1) d (omega arith)
-owed-slot F s false true (Normal l f d) h o = let z : s + 0 ≡ s = omega arith in rw z (go (eqb f l) refl)
-  where
-    go : (b : Bool) → eqb f l ≡ b → Owed F s (workedJob (pick b (Demoted l d) (Normal l f d)))
-    go true q = demoted-works F s l d (omega (arith, eqb-true f l q))
-    go false q = normal-works F s l f d (o .1)
-owed-slot F s false false (Normal l f d) h o = let z : s + 0 ≡ s = omega arith in rw z (go (eqb f l) refl)
-  where
-    go : (b : Bool) → eqb f l ≡ b → Owed F s (pick b (Demoted l d) (Normal l f d))
-    go true q = (o .0, omega (arith, eqb-true f l q))
-    go false q = o
+    most : (b : Bool) → s + bit b ≤ suc s
+    most true = omega arith
+    most false = omega arith
+owed-slot F s true false j h o p = absurd (false≢true (h refl (sym (kept-opened true true j .there) ∙ p)))
+owed-slot F s false false j h o p =
+    let z : s + 0 ≡ s = omega arith in
+    rw z (rw z at (owed-opened F s false j (o (sym (kept-opened true false j .there) ∙ p))))
 
 -- ---- a demoted job stays demoted while it is there
-Low : Job → Type 0
+abbrev Low : Job → Type 0
 Low j = isPresent j ≡ true → isDemoted j ≡ true
 
-low-worked : (l d : ℕ) → Low (workedJob (Demoted l d))
-unfolding Low
-low-worked l d = go (lastUnit l)
-  where
-    go : (b : Bool) → isPresent (pick b Idle (Demoted (l - 1) d)) ≡ true → isDemoted (pick b Idle (Demoted (l - 1) d)) ≡ true
-    go true e = e
-    go false e = e
+low-opened : (calm : Bool) (j : Job) → Low j → Low (openedJob true calm j)
+low-opened calm j h p = let k = kept-opened true calm j in k .lowly ∙ rw (h (sym (k .there) ∙ p))
 
 low-slot : (calm works : Bool) (j : Job) → Low j → Low (pick works (workedJob (openedJob true calm j)) (openedJob true calm j))
-unfolding Low
-low-slot true true Idle h = h
-low-slot true false Idle h = h
-low-slot false true Idle h = h
-low-slot false false Idle h = h
-low-slot calm works (Normal l f d) h = absurd (false≢true (h refl))
-low-slot true true (Demoted l d) h = low-worked l d
-low-slot false true (Demoted l d) h = low-worked l d
-low-slot true false (Demoted l d) h = h
-low-slot false false (Demoted l d) h = h
+low-slot calm true j h p = let w = went-on (openedJob true calm j) p in w .lowly ∙ low-opened calm j h (sym (w .there) ∙ p)
+low-slot calm false j h p = low-opened calm j h p
 
 -- ---- the whole story
 module _ (calm works : ℕ → Bool) (a C F due D : ℕ) (some : 1 ≤ C) (attended : Attended calm works a (Normal C F due) D) where
@@ -105,8 +96,9 @@ module _ (calm works : ℕ → Bool) (a C F due D : ℕ) (some : 1 ≤ C) (atten
 
   owed : (n : ℕ) → n ≤ D → Owed F (countIn calm a n) (story calm works a j n)
   unfolding story sum
-  owed zero h = (some, omega arith)
-  owed (suc n) h = owed-slot F (countIn calm a n) (calm (a + n)) (works (a + n)) (story calm works a j n) (attended n h) (owed n (omega arith))
+  owed zero h p = record { some = some; counts = λ e. omega arith; covered = λ e. absurd (false≢true e) }
+  owed (suc n) h p =
+      owed-slot F (countIn calm a n) (calm (a + n)) (works (a + n)) (story calm works a j n) (attended n h) (owed n (omega arith)) p
 
   low-from : (n d : ℕ) → Low (story calm works a j n) → Low (story calm works a j (n + d))
   unfolding story
@@ -116,22 +108,17 @@ module _ (calm works : ℕ → Bool) (a C F due D : ℕ) (some : 1 ≤ C) (atten
   module _ (enough : F ≤ countIn calm a D) where
     -- after D slots the job is not there as a demoted one
     pub none-low : isDemoted (story calm works a (Normal C F due) D) ≡ true → ⊥
-    none-low = go (story calm works a j D) (owed D (omega arith))
-      where
-        go : (x : Job) → Owed F (countIn calm a D) x → isDemoted x ≡ true → ⊥
-        go Idle o e = false≢true e
-        go (Normal l f d) o e = false≢true e
-        go (Demoted l d) o e = omega (arith, o .0, o .1)
+    none-low e =
+        let o = owed D (omega arith) (demoted-there (story calm works a j D) e) in
+        omega (arith, o .some, o .covered e)
 
     -- so if it is demoted at any time up to then, it is finished by then
     pub low-finishes : (n : ℕ) → n ≤ D → isDemoted (story calm works a (Normal C F due) n) ≡ true → story calm works a (Normal C F due) D ≡ Idle
-    unfolding Low
-    low-finishes n h e =
-        let z : n + (D - n) ≡ D = omega arith in
-        let low : Low (story calm works a j D) = rw z at (low-from n (D - n) (λ p. e)) in
-        go (story calm works a j D) low none-low
+    low-finishes n h e = go (isPresent (story calm works a j D)) refl
       where
-        go : (x : Job) → (isPresent x ≡ true → isDemoted x ≡ true) → (isDemoted x ≡ true → ⊥) → x ≡ Idle
-        go Idle l m = refl
-        go (Normal u v w) l m = absurd (m (l refl))
-        go (Demoted u v) l m = absurd (m refl)
+        low : Low (story calm works a j D)
+        low = let z : n + (D - n) ≡ D = omega arith in rw z at (low-from n (D - n) (λ p. e))
+
+        go : (b : Bool) → isPresent (story calm works a j D) ≡ b → story calm works a j D ≡ Idle
+        go false q = idle-now (story calm works a j D) q
+        go true q = absurd (none-low (low q))

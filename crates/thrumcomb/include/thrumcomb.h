@@ -8,14 +8,15 @@
  *   On a refusal it has written the refusal's place to `*place`, and nothing else is changed: `results` and every lent number and
  *   byte keep the content they had.
  *   What stands in a room after the numbers or bytes put out is unchanged too.
- *   It keeps no state and no pointer, and calls nothing else.
+ *   It keeps no state and no pointer, asks for no memory, and calls nothing but `memcpy` and `memset`, which the compiler puts in: a
+ *   program without a C library has to bring these two.
  *
  * What a caller owes
  *
  *   Each pointer and length are true: `p, p_length` are that many numbers or bytes that may be read and, where p is not const,
  *   written. A pointer is never null and is aligned for its type, with a length of 0 too. Memory that is lent to be written (a room,
  *   `results`, `*place`) overlaps nothing else that is lent to the same call.
- *   Nothing else has to be tested beforehand: every content and every length has its answer.
+ *   No number, byte or length has to be tested beforehand: every content and every length has its answer.
  *
  * What is lent
  *

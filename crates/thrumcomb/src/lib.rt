@@ -1,11 +1,7 @@
 // The public calls for C and Rust. Each returns 0 or a refusal's number; `results` is changed by a result alone and `place` by a
 // refusal alone. A slice is passed as a pointer and then a length. include/thrumcomb.h says the same to a C program.
-ghost use mathlib.Core.Path.{_≡_};
 ghost use Rattle.rules.specs.Case.{caseOf};
-ghost use Rattle.rules.specs.Calls.{countsAnswer, countsRoom, replayAnswer, replayRoom, runningAnswer};
-ghost use Rattle.rules.specs.Reader.{readAnswer, readTasks, readReleases};
-ghost use Rattle.rules.specs.Writer.{writeAnswer, writeBytes};
-ghost use Rattle.thrumcomb.specs.Told.{Told};
+ghost use Rattle.rules.specs.Told.{seen, CountsTold, ReplayTold, RunningTold, ReadTold, WriteTold};
 use rules::Counted;
 use rules::Replayed;
 use rules::Running;
@@ -21,8 +17,7 @@ pub extern "C" fn thrumcomb_counts(
     results: &mut [usize; 1],
     place: &mut u32,
 ) -> u32
-    ensures { λ r. ⌜ Told (countsAnswer procs (now (table .entry)) (now (out .entry))) r (now (place .entry)) (now (place .exit)) (now (results .entry)) (now (results .exit)) ⌝ }
-    ensures { λ r. ⌜ now (out .exit) ≡ countsRoom procs (now (table .entry)) (now (out .entry)) ⌝ }
+    ensures { λ r. ⌜ CountsTold procs (now (table .entry)) (now (out .entry)) (now (out .exit)) (seen r (now (place .entry)) (now (place .exit)) (now (results .entry)) (now (results .exit))) ⌝ }
 {
     let answer = counts::counts(procs, table, out);
     match answer {
@@ -49,8 +44,7 @@ pub extern "C" fn thrumcomb_replay(
     results: &mut [usize; 3],
     place: &mut u32,
 ) -> u32
-    ensures { λ r. ⌜ Told (replayAnswer (caseOf procs policy (now (table .entry)) end (now (trace .entry))) (now (out .entry))) r (now (place .entry)) (now (place .exit)) (now (results .entry)) (now (results .exit)) ⌝ }
-    ensures { λ r. ⌜ now (out .exit) ≡ replayRoom (caseOf procs policy (now (table .entry)) end (now (trace .entry))) (now (out .entry)) ⌝ }
+    ensures { λ r. ⌜ ReplayTold (caseOf procs policy (now (table .entry)) end (now (trace .entry))) (now (out .entry)) (now (out .exit)) (seen r (now (place .entry)) (now (place .exit)) (now (results .entry)) (now (results .exit))) ⌝ }
 {
     let answer = engine::replay(procs, policy, table, end, trace, out);
     match answer {
@@ -77,7 +71,7 @@ pub extern "C" fn thrumcomb_running_set(
     results: &mut [usize; 1],
     place: &mut u32,
 ) -> u32
-    ensures { λ r. ⌜ Told (runningAnswer (caseOf procs policy (now (table .entry)) end (now (trace .entry))) slot) r (now (place .entry)) (now (place .exit)) (now (results .entry)) (now (results .exit)) ⌝ }
+    ensures { λ r. ⌜ RunningTold (caseOf procs policy (now (table .entry)) end (now (trace .entry))) slot (seen r (now (place .entry)) (now (place .exit)) (now (results .entry)) (now (results .exit))) ⌝ }
 {
     let answer = engine::running(procs, policy, table, end, trace, slot);
     match answer {
@@ -101,9 +95,7 @@ pub extern "C" fn thrumcomb_read(
     results: &mut [usize; 5],
     place: &mut u32,
 ) -> u32
-    ensures { λ r. ⌜ Told (readAnswer (now (text .entry)) (now (tasks .entry)) (now (releases .entry))) r (now (place .entry)) (now (place .exit)) (now (results .entry)) (now (results .exit)) ⌝ }
-    ensures { λ r. ⌜ now (tasks .exit) ≡ readTasks (now (text .entry)) (now (tasks .entry)) (now (releases .entry)) ⌝ }
-    ensures { λ r. ⌜ now (releases .exit) ≡ readReleases (now (text .entry)) (now (tasks .entry)) (now (releases .entry)) ⌝ }
+    ensures { λ r. ⌜ ReadTold (now (text .entry)) (now (tasks .entry)) (now (tasks .exit)) (now (releases .entry)) (now (releases .exit)) (seen r (now (place .entry)) (now (place .exit)) (now (results .entry)) (now (results .exit))) ⌝ }
 {
     let answer = reader::read(text, tasks, releases);
     match answer {
@@ -136,8 +128,7 @@ pub extern "C" fn thrumcomb_write(
     results: &mut [usize; 1],
     place: &mut u32,
 ) -> u32
-    ensures { λ r. ⌜ Told (writeAnswer (caseOf procs policy (now (table .entry)) end (now (trace .entry))) (now (out .entry))) r (now (place .entry)) (now (place .exit)) (now (results .entry)) (now (results .exit)) ⌝ }
-    ensures { λ r. ⌜ now (out .exit) ≡ writeBytes (caseOf procs policy (now (table .entry)) end (now (trace .entry))) (now (out .entry)) ⌝ }
+    ensures { λ r. ⌜ WriteTold (caseOf procs policy (now (table .entry)) end (now (trace .entry))) (now (out .entry)) (now (out .exit)) (seen r (now (place .entry)) (now (place .exit)) (now (results .entry)) (now (results .exit))) ⌝ }
 {
     let answer = writer::write(procs, policy, table, end, trace, out);
     match answer {

@@ -6,9 +6,11 @@ use native.Mathlib.Omega.{arith}
 use lib.ListN.{length}
 use borrow.Author.Tests.{ne-eqb}
 use Rattle.rules.specs.declared.Fault.{Fault}
+use Rattle.rules.specs.declared.Written.the-variants as Written·
 use Rattle.rules.specs.Case.{Case}
 use Rattle.rules.specs.Refusals.{noFault, roomFault, caseFault, Accepted}
-use Rattle.rules.specs.Answers.{refusal, result, settled, kept}
+use Rattle.rules.specs.Answers.{result, settled, kept}
+use Rattle.rules.specs.Calls.{WritePromise}
 use Rattle.rules.specs.Writer.{caseText, writeFault, writeAnswer, writeBytes}
 use Rattle.legal.specs.Firsts.{next-none, next-some}
 use Rattle.legal.specs.Legal.{legal}
@@ -37,12 +39,14 @@ unfolding writeFault
 none-at-fault c n a b = next-none (caseFault c) _ a ∙ next-none (roomFault (length (caseText c)) n) noFault b
 
 -- what is answered, and what the bytes are then
-pub refused : (c : Case) (room : List ℕ) (f : Fault) → writeFault c (length room) ≡ f → (f .number ≡ 0 → ⊥) → (refusal (f .number) (f .place) ≡ writeAnswer c room) × (room ≡ writeBytes c room)
+pub refused : (c : Case) (room : List ℕ) (f : Fault) → writeFault c (length room) ≡ f → (f .number ≡ 0 → ⊥)
+    → WritePromise c room (Written·.Refused (f .number) (f .place)) room
 unfolding writeAnswer writeBytes settled kept
-refused c room f e h = rw (e, ne-eqb (f .number) 0 h) (refl, refl)
+refused c room f e h = record { answer = rw (e, ne-eqb (f .number) 0 h); left = rw (e, ne-eqb (f .number) 0 h) }
 
-pub written : (c : Case) (room new : List ℕ) (n : ℕ) → writeFault c (length room) ≡ noFault → length (caseText c) ≤ length room → Laid 0 (caseText c) room new n → (result (n ∷ []) ≡ writeAnswer c room) × (new ≡ writeBytes c room)
+pub written : (c : Case) (room new : List ℕ) (n : ℕ) → writeFault c (length room) ≡ noFault → length (caseText c) ≤ length room → Laid 0 (caseText c) room new n
+    → WritePromise c room (Written·.Text n) new
 unfolding writeAnswer writeBytes settled kept
 written c room new n e h p =
     let l : n ≡ length (caseText c) = omega (arith, p .behind) in
-    rw e (ap (λ (k : ℕ). result (k ∷ [])) l, laid-front p h)
+    record { answer = rw e (ap (λ (k : ℕ). result (k ∷ [])) l); left = rw e (laid-front p h) }

@@ -6,7 +6,8 @@ use native.Mathlib.Omega.{arith}
 use lib.ListN.{length, take, length-append}
 use lib.Seq.{take-all}
 use Rattle.rules.specs.Case.{caseOf, taskCount, releaseCount}
-use Rattle.rules.specs.Text.{digitsOf, policyName}
+use Rattle.rules.specs.Text.{digitsOf}
+use Rattle.rules.specs.Policies.{policyName}
 use Rattle.rules.specs.Writer.{lineText, moreFields, procsText, policyText, endText, caseText}
 use Rattle.puts.specs.Fields.{numberFields, wordOf}
 use Rattle.writer.specs.Rows.{rowsText, headText, tailText, WholeRows}

@@ -3,13 +3,14 @@ ghost use mathlib.Core.Path.{_≡_};
 ghost use Prim.Native.Nat.{_+_, _*_, _≤_};
 ghost use lib.ListN.{length};
 ghost use Rattle.rules.specs.Case.{caseOf};
-ghost use Rattle.rules.specs.Answers.{writtenAs};
-ghost use Rattle.rules.specs.Text.{policyName};
-ghost use Rattle.rules.specs.Writer.{policyText, caseText, writeAnswer, writeBytes};
+ghost use Rattle.rules.specs.Calls.{WritePromise};
+ghost use Rattle.rules.specs.Writer.{policyText, caseText};
 ghost use Rattle.puts.specs.Laid.{Laid};
 ghost use Rattle.writer.specs.Rows.{rowsText, headText, tailText, WholeRows};
 use checks::case_fault;
 use checks::room_fault;
+use policies::policy_width;
+use policies::put_policy;
 use puts::END;
 use puts::POLICY;
 use puts::PROCS;
@@ -18,7 +19,6 @@ use puts::TAB;
 use puts::TASK;
 use puts::numbers_width;
 use puts::put_line;
-use puts::put_policy;
 use puts::put_word;
 use puts::width;
 use rules::Written;
@@ -50,16 +50,6 @@ fn put_rows(out: &mut [u8], at: usize, word: u32, width: usize, rows: usize, vs:
         i += 1;
     }
     end
-}
-
-// How long the word of a policy is.
-fn policy_width(policy: u32) -> usize
-    ensures { λ r. ⌜ r ≡ length (policyName policy) ⌝ }
-{
-    match policy {
-        0 => 3,
-        _ => 6,
-    }
 }
 
 // Writes the lines of processors and policy at the start.
@@ -121,8 +111,7 @@ pub fn write(
     trace: &[u32],
     out: &mut [u8],
 ) -> Written
-    ensures { λ r. ⌜ writtenAs r ≡ writeAnswer (caseOf procs policy (now (table .entry)) end (now (trace .entry))) (now (out .entry)) ⌝ }
-    ensures { λ r. ⌜ now (out .exit) ≡ writeBytes (caseOf procs policy (now (table .entry)) end (now (trace .entry))) (now (out .entry)) ⌝ }
+    ensures { λ r. ⌜ WritePromise (caseOf procs policy (now (table .entry)) end (now (trace .entry))) (now (out .entry)) r (now (out .exit)) ⌝ }
 {
     let found = case_fault(procs, policy, table, end, trace);
     let number = found.number;

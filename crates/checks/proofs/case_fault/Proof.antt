@@ -1,45 +1,49 @@
 -- `checks::case_fault` meets its contract.
-use Rattle.rules.specs.Refusals.{caseFault}
-use mathlib.Core.Path.{_∙_}
-use Rattle.checks.proofs.Rows.{stop, skip}
+use mathlib.Core.Path.{ap₂, _∙_}
+use mathlib.Core.List.{List}
+use Rattle.rules.specs.Refusals.{orNext, caseFault}
+use Rattle.rules.specs.declared.Fault.{Fault}
+use Rattle.legal.specs.Firsts.{row-stop, row-join, row-passed}
+use Rattle.legal.specs.Passing.{sound-table}
+use Rattle.checks.specs.Needs.{headTests, traceTests}
 use borrow.Author.Needs.{needs}
 use Rattle.checks.proofs.case_fault.Statement.{statement}
 use Rattle.checks.proofs.case_fault.Tie as tie
 
-procs-fault-requires : tie.Need-procs-fault-requires
-procs-fault-requires c κs = search needs
+abbrev start : tie.After-head-checks → tie.Start
+start c = c .before .before .before
+
+abbrev head : tie.After-head-checks → List Fault
+head c = headTests (start c .args .procs) (start c .args .policy) (start c .args .table .now)
+
+abbrev others : tie.After-head-checks → List Fault
+others c = traceTests (start c .args .table .now) (start c .args .end) (start c .args .trace .now)
+
+head-checks-requires : tie.Need-head-checks-requires
+head-checks-requires c κs = search needs
 
 returns : tie.Need-returns
 unfolding caseFault
-returns c =
-    stop _ _ _ (c .before .procs-fault .ensures) (c .if1 .taken)
+returns c = row-stop _ (head (c .before)) (others (c .before)) (c .before .head-checks .ensures) (c .if1 .taken)
 
-policy-fault-requires : tie.Need-policy-fault-requires
-policy-fault-requires c κs = search needs
+trace-checks-requires : tie.Need-trace-checks-requires
+trace-checks-requires c κs =
+    let w = row-passed _ (head (c .before)) (c .before .head-checks .ensures) (c .if1 .left) in
+    sound-table _ (w .1 .1 .0) (w .1 .1 .1 .0)
+
+or-next-requires : tie.Need-or-next-requires
+or-next-requires c κs = search needs
 
 returns-2 : tie.Need-returns-2
 unfolding caseFault
-returns-2 c =
-    stop _ _ _ (c .before .policy-fault .ensures) (c .if2 .taken) ∙
-    skip _ _ _ (c .before .before .before .procs-fault .ensures) (c .before .before .if1 .left)
-
-table-checks-requires : tie.Need-table-checks-requires
-table-checks-requires c κs = search needs
-
-returns-3 : tie.Need-returns-3
-unfolding caseFault
-returns-3 c =
-    c .table-checks .ensures ∙
-    skip _ _ _ (c .before .before .policy-fault .ensures) (c .before .if2 .left) ∙
-    skip _ _ _ (c .before .before .before .before .procs-fault .ensures) (c .before .before .before .if1 .left)
+returns-2 c = c .or-next .ensures ∙ ap₂ orNext (c .before .before .before .head-checks .ensures) (c .before .trace-checks .ensures) ∙ row-join (head (c .before .before .before)) (others (c .before .before .before))
 
 pub case-fault-spec : {M : Type 1} → statement M
 case-fault-spec =
     tie.close
     (tie.spec
-    procs-fault-requires
+    head-checks-requires
     returns
-    policy-fault-requires
-    returns-2
-    table-checks-requires
-    returns-3)
+    trace-checks-requires
+    or-next-requires
+    returns-2)

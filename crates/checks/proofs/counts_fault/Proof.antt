@@ -1,7 +1,12 @@
 -- `checks::counts_fault` meets its contract.
-use Rattle.rules.specs.Refusals.{countsFault}
-use mathlib.Core.Path.{_∙_}
-use Rattle.checks.proofs.Rows.{stop, skip, few-tasks}
+use mathlib.Core.Path.{ap, ap₂, _∙_}
+use mathlib.Core.List.{[], _∷_}
+use Prim.Native.Nat.{ℕ}
+use Rattle.rules.specs.declared.Fault.{Fault}
+use Rattle.rules.specs.Case.{taskCount}
+use Rattle.rules.specs.Refusals.{orNext, first, roomFault, countsFault}
+use Rattle.legal.specs.Firsts.{row-join}
+use Rattle.checks.specs.Needs.{tableTests}
 use borrow.Author.Needs.{needs}
 use Rattle.checks.proofs.counts_fault.Statement.{statement}
 use Rattle.checks.proofs.counts_fault.Tie as tie
@@ -9,64 +14,43 @@ use Rattle.checks.proofs.counts_fault.Tie as tie
 procs-fault-requires : tie.Need-procs-fault-requires
 procs-fault-requires c κs = search needs
 
-returns : tie.Need-returns
-unfolding countsFault
-returns c =
-    stop _ _ _ (c .before .procs-fault .ensures) (c .if1 .taken)
+table-checks-requires : tie.Need-table-checks-requires
+table-checks-requires c κs = search needs
 
-table-fault-requires : tie.Need-table-fault-requires
-table-fault-requires c κs = search needs
-
-returns-2 : tie.Need-returns-2
-unfolding countsFault
-returns-2 c =
-    stop _ _ _ (c .before .table-fault .ensures) (c .if2 .taken) ∙
-    skip _ _ _ (c .before .before .before .procs-fault .ensures) (c .before .before .if1 .left)
-
-tasks-fault-requires : tie.Need-tasks-fault-requires
-tasks-fault-requires c κs = few-tasks _ _ (c .before .table-fault .ensures) (c .if2 .left)
-
-returns-3 : tie.Need-returns-3
-unfolding countsFault
-returns-3 c =
-    stop _ _ _ (c .before .tasks-fault .ensures) (c .if3 .taken) ∙
-    skip _ _ _ (c .before .before .before .table-fault .ensures) (c .before .before .if2 .left) ∙
-    skip _ _ _ (c .before .before .before .before .before .procs-fault .ensures) (c .before .before .before .before .if1 .left)
+task-count-requires : tie.Need-task-count-requires
+task-count-requires c κs = search needs
 
 room-fault-requires : tie.Need-room-fault-requires
 room-fault-requires c κs = search needs
 
-returns-4 : tie.Need-returns-4
-unfolding countsFault
-returns-4 c =
-    stop _ _ _ (c .before .room-fault .ensures) (c .if4 .taken) ∙
-    skip _ _ _ (c .before .before .before .tasks-fault .ensures) (c .before .before .if3 .left) ∙
-    skip _ _ _ (c .before .before .before .before .before .table-fault .ensures) (c .before .before .before .before .if2 .left) ∙
-    skip _ _ _ (c .before .before .before .before .before .before .before .procs-fault .ensures) (c .before .before .before .before .before .before .if1 .left)
+first-of-one-requires : tie.Need-first-of-one-requires
+first-of-one-requires c κs = search needs
 
-fault-requires : tie.Need-fault-requires
-fault-requires c κs = search needs
+or-next-requires : tie.Need-or-next-requires
+or-next-requires c κs = search needs
 
-returns-5 : tie.Need-returns-5
+or-next-requires-2 : tie.Need-or-next-requires-2
+or-next-requires-2 c κs = search needs
+
+returns : tie.Need-returns
 unfolding countsFault
-returns-5 c =
-    c .fault .ensures ∙
-    skip _ _ _ (c .before .before .room-fault .ensures) (c .before .if4 .left) ∙
-    skip _ _ _ (c .before .before .before .before .tasks-fault .ensures) (c .before .before .before .if3 .left) ∙
-    skip _ _ _ (c .before .before .before .before .before .before .table-fault .ensures) (c .before .before .before .before .before .if2 .left) ∙
-    skip _ _ _ (c .before .before .before .before .before .before .before .before .procs-fault .ensures) (c .before .before .before .before .before .before .before .if1 .left)
+returns c =
+    let start = c .before .before .before .before .before .before .before .before in
+    let ts = start .args .table .now in
+    let fits = c .before .before .before .room-fault .ensures ∙ ap (λ (n : ℕ). roomFault n (start .args .room)) (c .before .before .before .before .task-count .ensures) in
+    let room = c .before .before .first-of-one .ensures ∙ ap (λ (f : Fault). first (f ∷ [])) fits in
+    c .or-next2 .ensures ∙ ap₂ orNext (c .before .before .before .before .before .before .procs-fault .ensures)
+    (c .before .or-next .ensures ∙ ap₂ orNext (c .before .before .before .before .before .table-checks .ensures) room ∙ row-join (tableTests ts) (roomFault (taskCount ts) (start .args .room) ∷ []))
 
 pub counts-fault-spec : {M : Type 1} → statement M
 counts-fault-spec =
     tie.close
     (tie.spec
     procs-fault-requires
-    returns
-    table-fault-requires
-    returns-2
-    tasks-fault-requires
-    returns-3
+    table-checks-requires
+    task-count-requires
     room-fault-requires
-    returns-4
-    fault-requires
-    returns-5)
+    first-of-one-requires
+    or-next-requires
+    or-next-requires-2
+    returns)

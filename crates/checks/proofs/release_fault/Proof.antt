@@ -1,51 +1,67 @@
 -- `checks::release_fault` meets its contract.
-use Rattle.rules.specs.Case.{nameOf, taskCount}
+use mathlib.Core.Path.{_≡_, ap, ap₂, _∙_}
+use mathlib.Core.List.{List, [], _∷_}
 use Prim.Native.Nat.{ℕ, _-_, _≤_}
 use native.Mathlib.Omega.{arith}
-use mathlib.Core.Path.{_≡_, sym, _∙_}
 use lib.ListN.{getD}
-use Rattle.rules.specs.Refusals.{lastBefore}
-use Rattle.checks.proofs.Small.{named-bounds, last-at, rel-8, rel-11, rel-9, rel-10, rel-0}
+use Rattle.rules.specs.Case.{period, nameOf, taskCount}
+use Rattle.rules.specs.Refusals.{orNext, first, lastBefore, releaseFault}
+use Rattle.rules.specs.declared.Fault.{Fault}
+use Rattle.legal.specs.Firsts.{row-stop, row-join, row-passed}
+use Rattle.checks.proofs.Walk.{nearTests, near-found, sinceTest, since-found, near-named, last-at}
 use borrow.Author.Needs.{needs}
 use Rattle.checks.proofs.release_fault.Statement.{statement}
 use Rattle.checks.proofs.release_fault.Tie as tie
 
-abbrev start : tie.Then1 → tie.Start
-start c = c .before .before .before .before .before .before
+abbrev start : tie.After-first-of-three → tie.Start
+start c = c .before .before .before .before .before .before .before .before .before .before
 
-abbrev name : tie.Then1 → ℕ
-name c = nameOf (start c .args .trace .now) (start c .args .j)
+abbrev table : tie.After-first-of-three → List ℕ
+table c = start c .args .table .now
 
--- the release names a task of the table, of which there are at most 32
-bounds : (c : tie.Then1) → (1 ≤ name c) × (name c ≤ taskCount (start c .args .table .now)) × (name c ≤ 32)
+abbrev trace : tie.After-first-of-three → List ℕ
+trace c = start c .args .trace .now
+
+abbrev j : tie.After-first-of-three → ℕ
+j c = start c .args .j
+
+abbrev named-by : (c : tie.After-first-of-three) → ℕ
+named-by c = nameOf (trace c) (j c)
+
+-- the tests but the last, and the last
+abbrev near : tie.After-first-of-three → List Fault
+near c = nearTests (table c) (start c .args .end) (trace c) (j c)
+
+abbrev since : tie.After-first-of-three → List Fault
+since c = sinceTest (table c) (trace c) (j c) ∷ []
+
+found : (c : tie.After-first-of-three) → c .first-of-three .result ≡ first (near c)
+found c =
+    near-found (table c) (start c .args .end) (trace c) (j c) _ _ _ _ _ _ _ _ (c .before .before .before .before .before .before .name-of .ensures) (c .before .before .before .before .before .before .before .time-of .ensures) (c .before .before .before .before .before .is-named .ensures)
+    (c .before .before .in-order .ensures) (c .before .before .before .before .refuse-unless .ensures) (c .before .before .before .refuse-unless2 .ensures) (c .before .refuse-unless3 .ensures) (c .first-of-three .ensures)
+
+-- where they find nothing the release names a task of the table, of which there are few
+bounds : (c : tie.Else1) → (1 ≤ named-by (c .before)) × (named-by (c .before) ≤ taskCount (table (c .before))) × (named-by (c .before) ≤ 32)
 bounds c =
-    let w = named-bounds (name c) (taskCount (start c .args .table .now)) _ (c .before .is-named .ensures) (c .if1 .taken) in
-    (w .0, w .1, omega (arith, w .1, start c .pre .0 .few))
+    let d = c .before in
+    let w = near-named (table d) (start d .args .end) (trace d) (j d) (row-passed _ (near d) (found d) (c .if1 .left)) in
+    (w .0, w .1, omega (arith, w .1, start d .pre .0 .few))
+
+abbrev read : tie.Else1 → ℕ
+read c = c .before .before .before .before .before .before .before .name-of .result
 
 -- what is kept of that task is the time of its last release
-kept : (c : tie.Then1) → getD (start c .args .last .now) (name c - 1) 0 ≡ lastBefore (start c .args .trace .now) (start c .args .j) (name c)
-kept c = last-at _ _ _ (name c) (start c .pre .3) (bounds c .0) (bounds c .2)
+kept : (c : tie.Else1) → getD (start (c .before) .args .last .now) (read c - 1) 0 ≡ lastBefore (trace (c .before)) (j (c .before)) (named-by (c .before))
+kept c =
+    let d = c .before in
+    ap (λ (n : ℕ). getD (start d .args .last .now) (n - 1) 0) (d .before .before .before .before .before .before .name-of .ensures) ∙
+    last-at _ _ _ (named-by d) (start d .pre .3) (bounds c .0) (bounds c .2)
 
-mul-time : tie.Need-mul-time
-mul-time c = search needs
+time-of-requires : tie.Need-time-of-requires
+time-of-requires c κs = search needs
 
-mul-time-2 : tie.Need-mul-time-2
-mul-time-2 c = search needs
-
-shared-slice-read-time : tie.Need-shared-slice-read-time
-shared-slice-read-time c = search needs
-
-mul-name : tie.Need-mul-name
-mul-name c = search needs
-
-add-name : tie.Need-add-name
-add-name c = search needs
-
-mul-name-2 : tie.Need-mul-name-2
-mul-name-2 c = search needs
-
-shared-slice-read-name : tie.Need-shared-slice-read-name
-shared-slice-read-name c = search needs
+name-of-requires : tie.Need-name-of-requires
+name-of-requires c κs = search needs
 
 add-place : tie.Need-add-place
 add-place c = search needs
@@ -56,109 +72,86 @@ cast-place c = search needs
 is-named-requires : tie.Need-is-named-requires
 is-named-requires c κs = search needs
 
+refuse-unless-requires : tie.Need-refuse-unless-requires
+refuse-unless-requires c κs = search needs
+
+refuse-unless-requires-2 : tie.Need-refuse-unless-requires-2
+refuse-unless-requires-2 c κs = search needs
+
 in-order-requires : tie.Need-in-order-requires
 in-order-requires c κs = search needs
 
+refuse-unless-requires-3 : tie.Need-refuse-unless-requires-3
+refuse-unless-requires-3 c κs = search needs
+
+first-of-three-requires : tie.Need-first-of-three-requires
+first-of-three-requires c κs = search needs
+
+returns : tie.Need-returns
+unfolding releaseFault
+returns c = row-stop _ (near (c .before)) (since (c .before)) (found (c .before)) (c .if1 .taken)
+
 cast-i : tie.Need-cast-i
-cast-i c = omega (arith, bounds (c .before .before .before))
+cast-i c = search needs
 
 sub-i : tie.Need-sub-i
-sub-i c = omega (arith, bounds (c .before .before .before))
+sub-i c = omega (arith, bounds c, c .before .before .before .before .before .before .before .name-of .ensures)
 
-mul-t : tie.Need-mul-t
-mul-t c = omega (arith, bounds (c .before .before .before))
+mul-is-apart : tie.Need-mul-is-apart
+mul-is-apart c = search needs
 
-mul-t-2 : tie.Need-mul-t-2
-mul-t-2 c = omega (arith, bounds (c .before .before .before))
+element-copy-out-is-apart : tie.Need-element-copy-out-is-apart
+element-copy-out-is-apart c = omega (arith, bounds c, c .before .before .before .before .before .before .before .name-of .ensures)
 
-shared-slice-read-t : tie.Need-shared-slice-read-t
-shared-slice-read-t c = omega (arith, bounds (c .before .before .before .before))
-
-mul-l : tie.Need-mul-l
-mul-l c = omega (arith, bounds (c .before .before .before .before))
-
-element-copy-out-l : tie.Need-element-copy-out-l
-element-copy-out-l c = omega (arith, bounds (c .before .before .before .before))
+period-of-requires : tie.Need-period-of-requires
+period-of-requires c κs = omega (arith, bounds (c .before), c .before .before .before .before .before .before .before .before .name-of .ensures)
 
 is-apart-requires : tie.Need-is-apart-requires
 is-apart-requires c κs =
-    let d = c .before .before .before .before .before in
-    (rw (kept d) (start d .pre .4 _), start d .pre .0 .good (name d - 1) (omega (arith, bounds d)) .small)
+    let e = c .before .before in
+    let d = e .before in
+    (rw (kept e) (start d .pre .4 _), rw (c .period-of .ensures, d .before .before .before .before .before .before .name-of .ensures) (start d .pre .0 .good (named-by d - 1) (omega (arith, bounds e)) .small))
 
-fault-requires : tie.Need-fault-requires
-fault-requires c κs = search needs
+refuse-unless-requires-4 : tie.Need-refuse-unless-requires-4
+refuse-unless-requires-4 c κs = search needs
 
-returns : tie.Need-returns
-returns c =
-    let d = c .before .before .before .before .before .before .before .before in
-    let o = sym (c .before .before .before .before .before .before .in-order .ensures) ∙ c .before .before .before .before .before .if3 .taken in
-    let f = rw (kept d) at (c .before .before .is-apart .ensures) in
-    rel-0 _ _ _ _ _ (sym (d .before .is-named .ensures) ∙ d .if1 .taken) (c .before .before .before .before .before .before .before .if2 .taken) o (sym f ∙ c .before .if4 .taken) (c .fault .ensures)
+first-of-one-requires : tie.Need-first-of-one-requires
+first-of-one-requires c κs = search needs
 
-fault-requires-2 : tie.Need-fault-requires-2
-fault-requires-2 c κs = search needs
+or-next-requires : tie.Need-or-next-requires
+or-next-requires c κs = search needs
 
 returns-2 : tie.Need-returns-2
+unfolding releaseFault
 returns-2 c =
-    let d = c .before .before .before .before .before .before .before .before in
-    let o = sym (c .before .before .before .before .before .before .in-order .ensures) ∙ c .before .before .before .before .before .if3 .taken in
-    let f = rw (kept d) at (c .before .before .is-apart .ensures) in
-    rel-10 _ _ _ _ _ (sym (d .before .is-named .ensures) ∙ d .if1 .taken) (c .before .before .before .before .before .before .before .if2 .taken) o (sym f ∙ c .before .if4 .left) (c .fault2 .ensures)
-
-fault-requires-3 : tie.Need-fault-requires-3
-fault-requires-3 c κs = search needs
-
-returns-3 : tie.Need-returns-3
-returns-3 c =
-    let n = sym (c .before .before .before .before .before .is-named .ensures) ∙ c .before .before .before .before .if1 .taken in
-    let t = c .before .before .before .if2 .taken in
-    let o = sym (c .before .before .in-order .ensures) ∙ c .before .if3 .left in
-    rel-9 _ _ _ _ _ n t o (c .fault3 .ensures)
-
-fault-requires-4 : tie.Need-fault-requires-4
-fault-requires-4 c κs = search needs
-
-returns-4 : tie.Need-returns-4
-returns-4 c =
-    let n = sym (c .before .before .before .is-named .ensures) ∙ c .before .before .if1 .taken in
-    rel-11 _ _ _ _ _ n (c .before .if2 .left) (c .fault4 .ensures)
-
-fault-requires-5 : tie.Need-fault-requires-5
-fault-requires-5 c κs = search needs
-
-returns-5 : tie.Need-returns-5
-returns-5 c = rel-8 _ _ _ _ _ (sym (c .before .before .is-named .ensures) ∙ c .before .if1 .left) (c .fault5 .ensures)
+    let e = c .before .before .before .before .before .before in
+    let d = e .before in
+    let T = c .before .before .before .before .period-of .ensures ∙ ap (λ (n : ℕ). period (table d) (n - 1)) (d .before .before .before .before .before .before .name-of .ensures) in
+    let last = since-found (table d) (trace d) (j d) _ _ _ _ _ (kept e) T (d .before .before .before .before .before .before .before .time-of .ensures) (c .before .before .before .is-apart .ensures) (c .before .before .refuse-unless4 .ensures) in
+    c .or-next .ensures ∙ ap₂ orNext (found d) (c .before .first-of-one .ensures ∙ ap (λ (f : Fault). first (f ∷ [])) last) ∙ row-join (near d) (since d)
 
 pub release-fault-spec : {M : Type 1} → statement M
 release-fault-spec =
     tie.close
     (tie.spec
-    mul-time
-    mul-time-2
-    shared-slice-read-time
-    mul-name
-    add-name
-    mul-name-2
-    shared-slice-read-name
+    time-of-requires
+    name-of-requires
     add-place
     cast-place
     is-named-requires
+    refuse-unless-requires
+    refuse-unless-requires-2
     in-order-requires
+    refuse-unless-requires-3
+    first-of-three-requires
+    returns
     cast-i
     sub-i
-    mul-t
-    mul-t-2
-    shared-slice-read-t
-    mul-l
-    element-copy-out-l
+    mul-is-apart
+    element-copy-out-is-apart
+    period-of-requires
     is-apart-requires
-    fault-requires
-    returns
-    fault-requires-2
-    returns-2
-    fault-requires-3
-    returns-3
-    fault-requires-4
-    returns-4
-    fault-requires-5
-    returns-5)
+    refuse-unless-requires-4
+    first-of-one-requires
+    or-next-requires
+    returns-2)

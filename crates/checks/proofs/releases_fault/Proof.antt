@@ -1,31 +1,34 @@
 -- `checks::releases_fault` meets its contract.
-use Rattle.rules.specs.declared.Fault.{Fault}
-use borrow.Author.Needs.{needs}
-use native.Mathlib.Omega.{arith}
-use mathlib.Core.Path.{ap, sym, _∙_}
 use Prim.Native.Nat.{_-_, _≤_, _<_}
+use mathlib.Core.Path.{_≡_}
+use native.Mathlib.Omega.{arith}
 use Rattle.rules.specs.Words.{tab}
-use Rattle.rules.specs.Case.{timeOf, nameOf}
+use Rattle.rules.specs.Limits.{maxTasks, maxEnd}
+use Rattle.rules.specs.Case.{releaseCount, timeOf, nameOf}
 use Rattle.rules.specs.Refusals.{lastBefore}
-use Rattle.checks.proofs.Checks.{Checked, checked-none, checked-more, checked-hit, checked-all, passed}
+use Rattle.checks.proofs.Walk.{Checked, passed, checked-none, checked-more, checked-hit, checked-all}
+use borrow.Author.Needs.{needs}
 use Rattle.checks.proofs.releases_fault.Statement.{statement}
 use Rattle.checks.proofs.releases_fault.Tie as tie
 
 abbrev Inv-loop : tie.InvT-loop
-Inv-loop table end trace n last₀ j₀ last j = (j ≤ n) × Checked table end trace last j
+Inv-loop table end trace releases last₀ j₀ last j = (j ≤ releases) × Checked table end trace last j
 
 abbrev μ-loop : tie.MeasureT-loop
-μ-loop table end trace n last₀ j₀ last j = n - j
+μ-loop table end trace releases last₀ j₀ last j = releases - j
 
 abbrev start : tie.Else1 Inv-loop μ-loop → tie.Start Inv-loop μ-loop
-start c = c .before .before .before .before .before .before .before
+start c = c .before .before .before .before .before .before .before .before
 
--- a release with no fault names one of at most 32 tasks at a time that is not too late
-stands : (c : tie.Else1 Inv-loop μ-loop) → (1 ≤ nameOf (start c .args .trace .now) (c .before .before .before .before .loop .j)) × (nameOf (start c .args .trace .now) (c .before .before .before .before .loop .j) ≤ 32)
-    × (timeOf (start c .args .trace .now) (c .before .before .before .before .loop .j) < 100000)
+-- a release with no fault names one of few tasks at a time that is not too late
+stands : (c : tie.Else1 Inv-loop μ-loop) → (1 ≤ nameOf (start c .args .trace .now) (c .before .before .before .before .loop .j)) × (nameOf (start c .args .trace .now) (c .before .before .before .before .loop .j) ≤ maxTasks)
+    × (timeOf (start c .args .trace .now) (c .before .before .before .before .loop .j) < maxEnd)
 stands c =
-    let p = passed _ _ _ _ (ap (λ (u : Fault). u .number) (sym (c .before .release-fault .ensures)) ∙ c .if1 .left) in
+    let p = passed _ _ _ _ _ (c .before .release-fault .ensures) (c .if1 .left) in
     (p .some, omega (arith, p .known, start c .pre .0 .few), omega (arith, p .soon, start c .pre .2))
+
+release-count-requires : tie.Need-release-count-requires Inv-loop μ-loop
+release-count-requires c κs = search needs
 
 loop-holds : tie.Need-loop-holds Inv-loop μ-loop
 unfolding tab lastBefore
@@ -33,48 +36,35 @@ loop-holds c = (omega arith, checked-none _ _ _)
 
 release-fault-requires : tie.Need-release-fault-requires Inv-loop μ-loop
 release-fault-requires c κs =
-    let q = c .before .before .before .before .before .pre in
+    let q = c .before .before .before .before .before .before .pre in
     let v = c .before .before .loop .inv .1 in
-    (q .0, c .before .loop-test .taken, q .1, v .at-last, v .early)
+    (q .0, omega (arith, c .before .before .before .release-count .ensures), q .1, v .at-last, v .early)
 
 returns : tie.Need-returns Inv-loop μ-loop
-returns c = checked-hit _ _ _ _ _ (c .before .before .before .before .loop .inv .1) (c .before .before .before .loop-test .taken) _ (c .before .release-fault .ensures) (c .if1 .taken)
+returns c =
+    let l : c .before .before .before .before .loop .j < releaseCount (c .before .before .before .before .before .before .before .before .args .trace .now) = omega (arith, c .before .before .before .before .before .release-count .ensures) in
+    checked-hit _ _ _ _ _ (c .before .release-fault .ensures) _ (c .before .before .before .before .loop .inv .1) l (c .if1 .taken)
 
-mul-time : tie.Need-mul-time Inv-loop μ-loop
-mul-time c = search needs
+time-of-requires : tie.Need-time-of-requires Inv-loop μ-loop
+time-of-requires c κs = search needs
 
-mul-time-2 : tie.Need-mul-time-2 Inv-loop μ-loop
-mul-time-2 c = search needs
-
-shared-slice-read-time : tie.Need-shared-slice-read-time Inv-loop μ-loop
-shared-slice-read-time c = search needs
-
-mul-i : tie.Need-mul-i Inv-loop μ-loop
-mul-i c = search needs
-
-add-i : tie.Need-add-i Inv-loop μ-loop
-add-i c = search needs
-
-mul-i-2 : tie.Need-mul-i-2 Inv-loop μ-loop
-mul-i-2 c = search needs
-
-shared-slice-read-i : tie.Need-shared-slice-read-i Inv-loop μ-loop
-shared-slice-read-i c = search needs
+name-of-requires : tie.Need-name-of-requires Inv-loop μ-loop
+name-of-requires c κs = search needs
 
 cast-i : tie.Need-cast-i Inv-loop μ-loop
-cast-i c = omega (arith, stands (c .before .before))
+cast-i c = search needs
 
 sub-i : tie.Need-sub-i Inv-loop μ-loop
-sub-i c = omega (arith, stands (c .before .before))
+sub-i c = omega (arith, stands (c .before .before), c .name-of .ensures)
 
 add-last : tie.Need-add-last Inv-loop μ-loop
-add-last c = omega (arith, stands (c .before .before))
+add-last c = omega (arith, stands (c .before .before), c .before .time-of .ensures)
 
 mul-last : tie.Need-mul-last Inv-loop μ-loop
-mul-last c = omega (arith, stands (c .before .before))
+mul-last c = search needs
 
 array-write-last : tie.Need-array-write-last Inv-loop μ-loop
-array-write-last c = omega (arith, stands (c .before .before))
+array-write-last c = omega (arith, stands (c .before .before), c .name-of .ensures)
 
 add-j : tie.Need-add-j Inv-loop μ-loop
 add-j c = search needs
@@ -84,14 +74,19 @@ loop-less c = search needs
 
 loop-again : tie.Need-loop-again Inv-loop μ-loop
 loop-again c =
-    let q = c .before .before .before .before .before .before .before .before .before .pre in
-    (omega arith, checked-more _ _ _ _ _ (c .before .before .before .before .before .before .loop .inv .1) (q .0 .few) (q .2) _ (c .before .before .before .release-fault .ensures) (c .before .before .if1 .left))
+    let d = c .before .before in (
+      omega arith,
+      rw (c .name-of .ensures, c .before .time-of .ensures)
+          (checked-more _ _ _ _ _ (d .before .release-fault .ensures) _ (d .before .before .before .before .loop .inv .1) (start d .pre .0 .few) (start d .pre .2) (d .if1 .left)),
+    )
 
 fault-requires : tie.Need-fault-requires Inv-loop μ-loop
 fault-requires c κs = search needs
 
 returns-2 : tie.Need-returns-2 Inv-loop μ-loop
-returns-2 c = checked-all _ _ _ _ _ (c .before .before .loop .inv .1) (omega arith) _ (c .fault .ensures)
+returns-2 c =
+    let e : c .before .before .loop .j ≡ releaseCount (c .before .before .before .before .before .before .args .trace .now) = omega (arith, c .before .before .before .release-count .ensures) in
+    checked-all _ _ _ _ _ (c .before .before .loop .inv .1) e _ (c .fault .ensures)
 
 pub releases-fault-spec : {M : Type 1} → statement M
 releases-fault-spec =
@@ -99,16 +94,12 @@ releases-fault-spec =
     (tie.spec
     Inv-loop
     μ-loop
+    release-count-requires
     loop-holds
     release-fault-requires
     returns
-    mul-time
-    mul-time-2
-    shared-slice-read-time
-    mul-i
-    add-i
-    mul-i-2
-    shared-slice-read-i
+    time-of-requires
+    name-of-requires
     cast-i
     sub-i
     add-last

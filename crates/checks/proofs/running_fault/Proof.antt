@@ -1,7 +1,8 @@
 -- `checks::running_fault` meets its contract.
-use Rattle.rules.specs.Refusals.{runningFault}
-use mathlib.Core.Path.{_∙_}
-use Rattle.checks.proofs.Rows.{stop, skip}
+use mathlib.Core.Path.{ap₂, _∙_}
+use mathlib.Core.List.{[], _∷_}
+use Rattle.rules.specs.Refusals.{first, runningFault}
+use Rattle.rules.specs.declared.Fault.{Fault}
 use borrow.Author.Needs.{needs}
 use Rattle.checks.proofs.running_fault.Statement.{statement}
 use Rattle.checks.proofs.running_fault.Tie as tie
@@ -9,31 +10,21 @@ use Rattle.checks.proofs.running_fault.Tie as tie
 case-fault-requires : tie.Need-case-fault-requires
 case-fault-requires c κs = search needs
 
-returns : tie.Need-returns
-unfolding runningFault
-returns c =
-    stop _ _ _ (c .before .case-fault .ensures) (c .if1 .taken)
-
 slot-fault-requires : tie.Need-slot-fault-requires
 slot-fault-requires c κs = search needs
 
-returns-2 : tie.Need-returns-2
-unfolding runningFault
-returns-2 c =
-    stop _ _ _ (c .before .slot-fault .ensures) (c .if2 .taken) ∙
-    skip _ _ _ (c .before .before .before .case-fault .ensures) (c .before .before .if1 .left)
+first-of-two-requires : tie.Need-first-of-two-requires
+first-of-two-requires c κs = search needs
 
-fault-requires : tie.Need-fault-requires
-fault-requires c κs = search needs
-
-returns-3 : tie.Need-returns-3
+returns : tie.Need-returns
 unfolding runningFault
-returns-3 c =
-    c .fault .ensures ∙
-    skip _ _ _ (c .before .before .slot-fault .ensures) (c .before .if2 .left) ∙
-    skip _ _ _ (c .before .before .before .before .case-fault .ensures) (c .before .before .before .if1 .left)
+returns c = c .first-of-two .ensures ∙ ap₂ (λ (f g : Fault). first (f ∷ g ∷ [])) (c .before .before .case-fault .ensures) (c .before .slot-fault .ensures)
 
 pub running-fault-spec : {M : Type 1} → statement M
 running-fault-spec =
     tie.close
-    (tie.spec case-fault-requires returns slot-fault-requires returns-2 fault-requires returns-3)
+    (tie.spec
+    case-fault-requires
+    slot-fault-requires
+    first-of-two-requires
+    returns)

@@ -1,53 +1,66 @@
 -- `checks::trace_checks` meets its contract.
-use mathlib.Core.Path.{_∙_}
-use Rattle.checks.proofs.Rows.{stop, skip, short-end, few-releases}
+use mathlib.Core.Path.{_≡_, ap₂, _∙_}
+use mathlib.Core.List.{List, [], _∷_}
+use Rattle.rules.specs.Refusals.{orNext, first, endFault, traceFault, releasesFault}
+use Rattle.rules.specs.declared.Fault.{Fault}
+use Rattle.legal.specs.Firsts.{row-stop, row-join, row-passed}
+use Rattle.legal.specs.Passing.{end-clear, trace-clear}
 use borrow.Author.Needs.{needs}
 use Rattle.checks.proofs.trace_checks.Statement.{statement}
 use Rattle.checks.proofs.trace_checks.Tie as tie
 
+abbrev start : tie.After-first-of-two → tie.Start
+start c = c .before .before .before .before .before
+
+-- the tests on the sizes, and those on the releases
+abbrev sizes : tie.After-first-of-two → List Fault
+sizes c = endFault (start c .args .end) ∷ traceFault (start c .args .trace .now) ∷ []
+
+abbrev others : tie.After-first-of-two → List Fault
+others c = releasesFault (start c .args .table .now) (start c .args .end) (start c .args .trace .now) ∷ []
+
+found : (c : tie.After-first-of-two) → c .first-of-two .result ≡ first (sizes c)
+found c = rw (c .before .trace-fault .ensures, c .before .before .end-fault .ensures) at (c .first-of-two .ensures)
+
 end-fault-requires : tie.Need-end-fault-requires
 end-fault-requires c κs = search needs
-
-returns : tie.Need-returns
-returns c =
-    stop _ _ _ (c .before .end-fault .ensures) (c .if1 .taken)
 
 trace-fault-requires : tie.Need-trace-fault-requires
 trace-fault-requires c κs = search needs
 
-returns-2 : tie.Need-returns-2
-returns-2 c =
-    stop _ _ _ (c .before .trace-fault .ensures) (c .if2 .taken) ∙
-    skip _ _ _ (c .before .before .before .end-fault .ensures) (c .before .before .if1 .left)
+first-of-two-requires : tie.Need-first-of-two-requires
+first-of-two-requires c κs = search needs
+
+returns : tie.Need-returns
+returns c = row-stop _ (sizes (c .before)) (others (c .before)) (found (c .before)) (c .if1 .taken)
 
 releases-fault-requires : tie.Need-releases-fault-requires
-releases-fault-requires c κs = (c .before .before .before .before .before .before .pre, few-releases _ _ (c .before .trace-fault .ensures) (c .if2 .left), short-end _ _ (c .before .before .before .end-fault .ensures) (c .before .before .if1 .left))
+releases-fault-requires c κs =
+    let d = c .before in
+    let w = row-passed _ (sizes d) (found d) (c .if1 .left) in
+    (start d .pre, trace-clear _ (w .1 .0) .few, end-clear _ (w .0))
 
-returns-3 : tie.Need-returns-3
-returns-3 c =
-    stop _ _ _ (c .before .releases-fault .ensures) (c .if3 .taken) ∙
-    skip _ _ _ (c .before .before .before .trace-fault .ensures) (c .before .before .if2 .left) ∙
-    skip _ _ _ (c .before .before .before .before .before .end-fault .ensures) (c .before .before .before .before .if1 .left)
+first-of-one-requires : tie.Need-first-of-one-requires
+first-of-one-requires c κs = search needs
 
-fault-requires : tie.Need-fault-requires
-fault-requires c κs = search needs
+or-next-requires : tie.Need-or-next-requires
+or-next-requires c κs = search needs
 
-returns-4 : tie.Need-returns-4
-returns-4 c =
-    c .fault .ensures ∙
-    skip _ _ _ (c .before .before .releases-fault .ensures) (c .before .if3 .left) ∙
-    skip _ _ _ (c .before .before .before .before .trace-fault .ensures) (c .before .before .before .if2 .left) ∙
-    skip _ _ _ (c .before .before .before .before .before .before .end-fault .ensures) (c .before .before .before .before .before .if1 .left)
+returns-2 : tie.Need-returns-2
+returns-2 c =
+    let d = c .before .before .before .before in
+    let releases = rw (c .before .before .releases-fault .ensures) at (c .before .first-of-one .ensures) in
+    c .or-next .ensures ∙ ap₂ orNext (found d) releases ∙ row-join (sizes d) (others d)
 
 pub trace-checks-spec : {M : Type 1} → statement M
 trace-checks-spec =
     tie.close
     (tie.spec
     end-fault-requires
-    returns
     trace-fault-requires
-    returns-2
+    first-of-two-requires
+    returns
     releases-fault-requires
-    returns-3
-    fault-requires
-    returns-4)
+    first-of-one-requires
+    or-next-requires
+    returns-2)

@@ -1,7 +1,8 @@
 -- `counts::availability_of` meets its contract.
 use Rattle.counts.proofs.Sums.{avail-small}
 use native.Mathlib.Omega.{arith}
-use Prim.Native.Nat.{_-_}
+use mathlib.Core.Path.{ap}
+use Prim.Native.Nat.{_+_, _-_, _*_, _/_}
 use Rattle.rules.specs.Counts.{availability}
 use borrow.Author.Needs.{needs}
 use Rattle.counts.proofs.availability_of.Statement.{statement}
@@ -19,18 +20,18 @@ div-result c = search needs
 mul-result : tie.Need-mul-result
 mul-result c =
     let q = c .before .pre in
-    omega (arith, avail-small (c .before .args .l) (c .before .args .t) (c .before .args .d) (q .0) (q .1) (q .2))
+    omega (arith, avail-small (c .before .args .slots) (c .before .args .period) (c .before .args .deadline) (q .0) (q .1) (q .2))
 
 add-result : tie.Need-add-result
 add-result c =
     let q = c .before .pre in
-    omega (arith, avail-small (c .before .args .l) (c .before .args .t) (c .before .args .d) (q .0) (q .1) (q .2), c .smaller .ensures)
+    omega (arith, avail-small (c .before .args .slots) (c .before .args .period) (c .before .args .deadline) (q .0) (q .1) (q .2), c .smaller .ensures)
 
 returns : tie.Need-returns
 unfolding availability
 returns c =
     let q = c .before .pre in
-    (rw (c .smaller .ensures), omega (arith, avail-small (c .before .args .l) (c .before .args .t) (c .before .args .d) (q .0) (q .1) (q .2), c .smaller .ensures))
+    (ap (_+_ (c .before .args .slots / c .before .args .period * c .before .args .deadline)) (c .smaller .ensures), omega (arith, avail-small (c .before .args .slots) (c .before .args .period) (c .before .args .deadline) (q .0) (q .1) (q .2), c .smaller .ensures))
 
 pub availability-of-spec : {M : Type 1} → statement M
 availability-of-spec =

@@ -1,59 +1,59 @@
 -- `counts::count_of` meets its contract.
-use lib.ListN.{length}
-use native.Mathlib.Numerals.{add-one}
-use native.Mathlib.Nat.{zero-add}
-use Rattle.counts.proofs.Sums.{count-low, count-high}
-use borrow.Author.Needs.{needs}
 use native.Mathlib.Omega.{arith}
-use mathlib.Core.Path.{_≡_, refl, ap, ap₂, _∙_}
-use Prim.Native.Nat.{_+_, _-_, _*_, _/_, _≤_}
+use mathlib.Core.List.{List}
+use mathlib.Core.Path.{_≡_, refl, ap, _∙_}
+use Prim.Native.Nat.{ℕ, _-_, _*_, _≤_}
 use Rattle.rules.specs.Words.{sum}
-use Rattle.rules.specs.Case.{period, deadline}
+use Rattle.rules.specs.Case.{taskCount, period, deadline}
 use Rattle.rules.specs.Counts.{availability, availabilities}
+use Rattle.counts.specs.Needs.{maxAvailability}
+use Rattle.counts.proofs.Sums.{added, count-low, count-high}
+use borrow.Author.Needs.{needs}
 use Rattle.counts.proofs.count_of.Statement.{statement}
 use Rattle.counts.proofs.count_of.Tie as tie
 
 abbrev Inv-loop : tie.InvT-loop
-Inv-loop m table l n s₀ i₀ s i = (i ≤ n) × (s ≤ i * 100010000) × (s ≡ sum (λ i. availability (period table i) (deadline table i) l) 0 i)
+Inv-loop procs table slots tasks sum₀ i₀ s i = (i ≤ tasks) × (s ≤ i * maxAvailability) × (s ≡ sum (λ i. availability (period table i) (deadline table i) slots) 0 i)
 
 abbrev μ-loop : tie.MeasureT-loop
-μ-loop m table l n s₀ i₀ s i = n - i
+μ-loop procs table slots tasks sum₀ i₀ s i = tasks - i
+
+abbrev start : tie.After-loop Inv-loop μ-loop → tie.Start Inv-loop μ-loop
+start c = c .before .before .before .before
+
+abbrev table : tie.After-loop Inv-loop μ-loop → List ℕ
+table c = start c .args .table .now
+
+-- the sum over all tasks
+summed : (c : tie.After-loop Inv-loop μ-loop) → c .before .loop .sum ≡ availabilities (table c) (start c .args .slots)
+unfolding availabilities
+summed c =
+    let z : c .before .loop .i ≡ taskCount (table c) = omega (arith, c .before .before .task-count .ensures) in
+    c .before .loop .inv .2 ∙ ap (sum (λ i. availability (period (table c) i) (deadline (table c) i) (start c .args .slots)) 0) z
+
+task-count-requires : tie.Need-task-count-requires Inv-loop μ-loop
+task-count-requires c κs = search needs
 
 loop-holds : tie.Need-loop-holds Inv-loop μ-loop
 unfolding sum
 loop-holds c = (omega arith, omega arith, refl)
 
-mul-t : tie.Need-mul-t Inv-loop μ-loop
-mul-t c = search needs
+period-of-requires : tie.Need-period-of-requires Inv-loop μ-loop
+period-of-requires c κs = search needs
 
-mul-t-2 : tie.Need-mul-t-2 Inv-loop μ-loop
-mul-t-2 c = search needs
-
-shared-slice-read-t : tie.Need-shared-slice-read-t Inv-loop μ-loop
-shared-slice-read-t c = search needs
-
-mul-d : tie.Need-mul-d Inv-loop μ-loop
-mul-d c = search needs
-
-add-d : tie.Need-add-d Inv-loop μ-loop
-add-d c = search needs
-
-mul-d-2 : tie.Need-mul-d-2 Inv-loop μ-loop
-mul-d-2 c = search needs
-
-shared-slice-read-d : tie.Need-shared-slice-read-d Inv-loop μ-loop
-shared-slice-read-d c = search needs
+deadline-of-requires : tie.Need-deadline-of-requires Inv-loop μ-loop
+deadline-of-requires c κs = search needs
 
 availability-of-requires : tie.Need-availability-of-requires Inv-loop μ-loop
 availability-of-requires c κs =
-    let q = c .before .before .before .before .before .pre in
-    let m = q .0 .good (c .before .before .before .loop .i) (omega arith) in
-    (omega (arith, m .some, m .fits, m .within), omega (arith, m .within, m .small), q .2)
-
-add-s : tie.Need-add-s Inv-loop μ-loop
-add-s c =
     let q = c .before .before .before .before .before .before .pre in
-    omega (arith, q .0 .few, c .availability-of .ensures .1)
+    let g = q .0 .good (c .before .before .before .loop .i) (omega (arith, c .before .before .before .before .task-count .ensures)) in
+    let T = c .before .period-of .ensures in
+    let D = c .deadline-of .ensures in
+    (omega (arith, T, g .some, g .fits, g .within), omega (arith, D, g .within, g .small), q .2)
+
+add-sum : tie.Need-add-sum Inv-loop μ-loop
+add-sum c = omega (arith, c .before .before .before .before .before .before .before .pre .0 .few, c .availability-of .ensures .1)
 
 add-i : tie.Need-add-i Inv-loop μ-loop
 add-i c = search needs
@@ -62,33 +62,25 @@ loop-less : tie.Need-loop-less Inv-loop μ-loop
 loop-less c = search needs
 
 loop-again : tie.Need-loop-again Inv-loop μ-loop
-unfolding sum
 loop-again c =
     let v = c .before .before .before .before .loop .inv in
-    let e = c .availability-of .ensures in
-    (omega arith, omega (arith, e .1, v .1), rw (add-one (c .before .before .before .before .loop .i), zero-add (c .before .before .before .before .loop .i)) (ap₂ _+_ (v .2) (e .0)))
+    let e = c .availability-of .ensures in (
+      omega arith,
+      omega (arith, e .1, v .1),
+      added (c .before .before .before .before .before .before .before .args .table .now) _ (c .before .before .before .before .loop .i) _ _ _ _ (v .2) (c .before .before .period-of .ensures) (c .before .deadline-of .ensures) (e .0),
+    )
 
-add-q : tie.Need-add-q Inv-loop μ-loop
-add-q c = search needs
+add-shared : tie.Need-add-shared Inv-loop μ-loop
+add-shared c = search needs
 
-div-q : tie.Need-div-q Inv-loop μ-loop
-div-q c = search needs
+div-shared : tie.Need-div-shared Inv-loop μ-loop
+div-shared c = search needs
 
 returns : tie.Need-returns Inv-loop μ-loop
-unfolding availabilities
-returns c =
-    let v = c .before .before .loop .inv in
-    let z : c .before .before .loop .i ≡ length (c .before .before .before .before .args .table .now) / 3 = omega arith in
-    let e = v .2 ∙ ap (sum (λ i. availability (period (c .before .before .before .before .args .table .now) i) (deadline (c .before .before .before .before .args .table .now) i) (c .before .before .before .before .args .l)) 0) z in
-    count-low _ _ _ _ e (c .if1 .taken)
+returns c = count-low _ _ _ _ (summed (c .before)) (c .if1 .taken)
 
 returns-2 : tie.Need-returns-2 Inv-loop μ-loop
-unfolding availabilities
-returns-2 c =
-    let v = c .before .before .loop .inv in
-    let z : c .before .before .loop .i ≡ length (c .before .before .before .before .args .table .now) / 3 = omega arith in
-    let e = v .2 ∙ ap (sum (λ i. availability (period (c .before .before .before .before .args .table .now) i) (deadline (c .before .before .before .before .args .table .now) i) (c .before .before .before .before .args .l)) 0) z in
-    count-high _ _ _ _ e
+returns-2 c = count-high _ _ _ _ (summed (c .before))
 
 pub count-of-spec : {M : Type 1} → statement M
 count-of-spec =
@@ -96,20 +88,16 @@ count-of-spec =
     (tie.spec
     Inv-loop
     μ-loop
+    task-count-requires
     loop-holds
-    mul-t
-    mul-t-2
-    shared-slice-read-t
-    mul-d
-    add-d
-    mul-d-2
-    shared-slice-read-d
+    period-of-requires
+    deadline-of-requires
     availability-of-requires
-    add-s
+    add-sum
     add-i
     loop-less
     loop-again
-    add-q
-    div-q
+    add-shared
+    div-shared
     returns
     returns-2)

@@ -1,49 +1,45 @@
 -- `counts::put_counts` meets its contract: the loop lays the free counts over what the slice held.
-use borrow.Author.Needs.{needs}
-use mathlib.Core.Path.{_≡_}
-use Prim.Native.Nat.{_-_, _/_, _≤_, _<_}
+use mathlib.Core.Path.{_≡_, ap, _∙_}
+use mathlib.Core.List.{List}
+use Prim.Native.Nat.{ℕ, _-_, _≤_, _<_}
 use native.Mathlib.Omega.{arith}
 use lib.ListN.{length}
-use Rattle.rules.specs.Counts.{freeCount}
+use Rattle.rules.specs.Case.{taskCount}
+use Rattle.rules.specs.Counts.{count, freeCount}
 use Rattle.lists.specs.Fill.{Laying, laying-none, laying-long, laying-store}
+use borrow.Author.Needs.{needs}
 use Rattle.counts.proofs.put_counts.Statement.{statement}
 use Rattle.counts.proofs.put_counts.Tie as tie
 
 abbrev Inv-loop : tie.InvT-loop
-Inv-loop m table out₀ n k₀ out k = (k ≤ n) × Laying (freeCount m table) out₀ out k
+Inv-loop procs table out₀ tasks i₀ out i = (i ≤ tasks) × Laying (freeCount procs table) out₀ out i
 
 abbrev μ-loop : tie.MeasureT-loop
-μ-loop m table out₀ n k₀ out k = n - k
+μ-loop procs table out₀ tasks i₀ out i = tasks - i
+
+task-count-requires : tie.Need-task-count-requires Inv-loop μ-loop
+task-count-requires c κs = search needs
 
 loop-holds : tie.Need-loop-holds Inv-loop μ-loop
 loop-holds c = (omega arith, laying-none _ _)
 
-mul-d : tie.Need-mul-d Inv-loop μ-loop
-mul-d c = search needs
-
-add-d : tie.Need-add-d Inv-loop μ-loop
-add-d c = search needs
-
-mul-d-2 : tie.Need-mul-d-2 Inv-loop μ-loop
-mul-d-2 c = search needs
-
-shared-slice-read-d : tie.Need-shared-slice-read-d Inv-loop μ-loop
-shared-slice-read-d c = search needs
+deadline-of-requires : tie.Need-deadline-of-requires Inv-loop μ-loop
+deadline-of-requires c κs = search needs
 
 count-of-requires : tie.Need-count-of-requires Inv-loop μ-loop
 count-of-requires c κs =
-    let q = c .before .before .before .before .before .pre in
-    let m = q .0 .good (c .before .before .loop .k) (omega arith) in
-    (q .0, q .1, omega (arith, m .fits, m .within, m .small))
+    let q = c .before .before .before .before .before .before .pre in
+    let g = q .0 .good (c .before .before .loop .i) (omega (arith, c .before .before .before .task-count .ensures)) in
+    (q .0, q .1, omega (arith, c .deadline-of .ensures, g .fits, g .within, g .small))
 
 mul-out : tie.Need-mul-out Inv-loop μ-loop
-mul-out c = omega (arith, c .before .before .before .before .before .before .pre .0 .few)
+mul-out c = omega (arith, c .before .before .before .before .before .before .before .pre .0 .few, c .before .before .before .before .task-count .ensures)
 
 slice-write-out : tie.Need-slice-write-out Inv-loop μ-loop
-slice-write-out c = omega (arith, laying-long _ _ _ _ (c .before .before .before .loop .inv .1), c .before .before .before .before .before .before .pre .2)
+slice-write-out c = omega (arith, laying-long _ _ _ _ (c .before .before .before .loop .inv .1), c .before .before .before .before .before .before .before .pre .2, c .before .before .before .before .task-count .ensures)
 
-add-k : tie.Need-add-k Inv-loop μ-loop
-add-k c = search needs
+add-i : tie.Need-add-i Inv-loop μ-loop
+add-i c = search needs
 
 loop-less : tie.Need-loop-less Inv-loop μ-loop
 loop-less c = search needs
@@ -52,15 +48,15 @@ loop-again : tie.Need-loop-again Inv-loop μ-loop
 unfolding freeCount
 loop-again c =
     let w = c .before .before .before .loop .inv .1 in
-    let l : c .before .before .before .loop .k < length (c .before .before .before .before .before .before .args .out .now) = omega (arith, c .before .before .before .before .before .before .pre .2) in
-    (omega arith, laying-store _ _ _ _ 0 _ l w (c .count-of .ensures))
+    let l : c .before .before .before .loop .i < length (c .before .before .before .before .before .before .before .args .out .now) = omega (arith, c .before .before .before .before .before .before .before .pre .2, c .before .before .before .before .task-count .ensures) in
+    (omega arith, laying-store _ _ _ _ 0 _ l w (c .count-of .ensures ∙ ap (count (c .before .before .before .before .before .before .before .args .procs) (c .before .before .before .before .before .before .before .args .table .now)) (c .before .deadline-of .ensures)))
 
 same-length : tie.Need-same-length Inv-loop μ-loop
 same-length c = laying-long _ _ _ _ (c .before .loop .inv .1)
 
 returns : tie.Need-returns Inv-loop μ-loop
 returns c =
-    let e : c .before .loop .k ≡ length (c .before .before .before .before .args .table .now) / 3 = omega arith in
+    let e : c .before .loop .i ≡ taskCount (c .before .before .before .before .before .args .table .now) = omega (arith, c .before .before .task-count .ensures) in
     rw e at (c .before .loop .inv .1 .so-far)
 
 pub put-counts-spec : {M : Type 1} → statement M
@@ -69,15 +65,13 @@ put-counts-spec =
     (tie.spec
     Inv-loop
     μ-loop
+    task-count-requires
     loop-holds
-    mul-d
-    add-d
-    mul-d-2
-    shared-slice-read-d
+    deadline-of-requires
     count-of-requires
     mul-out
     slice-write-out
-    add-k
+    add-i
     loop-less
     loop-again
     same-length

@@ -2,9 +2,9 @@
 use mathlib.Core.Path.{ap, _∙_}
 use Rattle.rules.specs.Answers.{result}
 use Rattle.rules.specs.Calls.{replayAnswer, replayRoom}
-use Rattle.legal.specs.Legal.{legal}
+use Rattle.legal.specs.Legal.{legal, accepted-procs, accepted-table, replay-clear}
 use Rattle.legal.specs.Settled.{refuses, leaves, settles, puts, clear}
-use Rattle.engine.proofs.Calls.{sound, replay-clear, still-fits, total, totals}
+use Rattle.engine.proofs.Calls.{still-fits, total, totals}
 use borrow.Author.Needs.{needs}
 use Rattle.engine.proofs.replay.Statement.{statement}
 use Rattle.engine.proofs.replay.Tie as tie
@@ -14,12 +14,14 @@ replay-fault-requires c κs = search needs
 
 returns : tie.Need-returns
 unfolding replayAnswer replayRoom
-returns c = (refuses _ _ (c .before .replay-fault .ensures) _ (c .if1 .taken), leaves _ _ (c .before .replay-fault .ensures) _ _ (c .if1 .taken))
+returns c =
+    let e = c .before .replay-fault .ensures in
+    record { answer = refuses _ _ e _ (c .if1 .taken); left = leaves _ _ e _ _ (c .if1 .taken) }
 
 free-counts-requires : tie.Need-free-counts-requires
 free-counts-requires c κs =
     let w = replay-clear _ _ (clear _ _ (c .before .replay-fault .ensures) (c .if1 .left)) in
-    (sound _ (w .0), legal _ (w .0) .procs-few)
+    (accepted-table _ (w .0), accepted-procs _ (w .0))
 
 replay-run-requires : tie.Need-replay-run-requires
 replay-run-requires c κs =
@@ -49,11 +51,12 @@ unfolding replayAnswer replayRoom
 returns-2 c =
     let e = c .before .before .before .before .before .before .before .before .before .before .before .before .replay-fault .ensures in
     let h = c .before .before .before .before .before .before .before .before .before .before .before .if1 .left in
-    let o = c .before .before .before .before .before .before .before .before .replay-run .ensures in (
-      ap result (totals _ _ _ _ _ _ (total _ _ _ o 1 _ (c .before .before .before .before .marked-in .ensures)) (total _ _ _ o 2 _ (c .before .before .marked-in2 .ensures)) (total _ _ _ o 3 _ (c .marked-in3 .ensures))) ∙
-          settles _ _ e _ h,
-      o ∙ puts _ _ e _ _ h,
-    )
+    let o = c .before .before .before .before .before .before .before .before .replay-run .ensures in
+    record {
+      answer = ap result (totals _ _ _ _ _ _ (total _ _ _ o 1 _ (c .before .before .before .before .marked-in .ensures)) (total _ _ _ o 2 _ (c .before .before .marked-in2 .ensures)) (total _ _ _ o 3 _ (c .marked-in3 .ensures))) ∙
+          settles _ _ e _ h;
+      left = o ∙ puts _ _ e _ _ h;
+    }
 
 pub replay-spec : {M : Type 1} → statement M
 replay-spec =

@@ -7,9 +7,8 @@ use native.Mathlib.Numerals.{add-one}
 use native.Mathlib.Omega.{arith}
 use Rattle.rules.specs.Answers.{result}
 use Rattle.rules.specs.Calls.{runningAnswer}
-use Rattle.legal.specs.Legal.{legal}
+use Rattle.legal.specs.Legal.{legal, accepted-procs, accepted-table, running-clear}
 use Rattle.legal.specs.Settled.{refuses, settles, clear}
-use Rattle.engine.proofs.Calls.{sound, running-clear}
 use Rattle.engine.proofs.Powers.{array-number}
 use borrow.Author.Needs.{needs}
 use Rattle.engine.proofs.running.Statement.{statement}
@@ -20,12 +19,12 @@ running-fault-requires c κs = search needs
 
 returns : tie.Need-returns
 unfolding runningAnswer
-returns c = refuses _ _ (c .before .running-fault .ensures) _ (c .if1 .taken)
+returns c = record { answer = refuses _ _ (c .before .running-fault .ensures) _ (c .if1 .taken) }
 
 free-counts-requires : tie.Need-free-counts-requires
 free-counts-requires c κs =
     let w = running-clear _ _ (clear _ _ (c .before .running-fault .ensures) (c .if1 .left)) in
-    (sound _ (w .0), legal _ (w .0) .procs-few)
+    (accepted-table _ (w .0), accepted-procs _ (w .0))
 
 fresh-run-requires : tie.Need-fresh-run-requires
 fresh-run-requires c κs = search needs
@@ -51,7 +50,7 @@ unfolding runningAnswer
 returns-2 c =
     let e = c .before .before .before .before .before .before .before .running-fault .ensures in
     let n = c .set-number .ensures ∙ array-number _ _ (c .before .before .walk .ensures .0 _ (add-one _)) in
-    ap (λ (x : ℕ). result (x ∷ [])) n ∙ settles _ _ e _ (c .before .before .before .before .before .before .if1 .left)
+    record { answer = ap (λ (x : ℕ). result (x ∷ [])) n ∙ settles _ _ e _ (c .before .before .before .before .before .before .if1 .left) }
 
 pub running-spec : {M : Type 1} → statement M
 running-spec =

@@ -1,7 +1,7 @@
 -- `program::answer` meets its contract: the reader's refusal alone, or what the wish asks of the case that was read.
 use mathlib.Core.Path.{refl}
 use native.Mathlib.Omega.{arith}
-use Rattle.program.proofs.Shows.{refusal-shown, few-tasks, few-releases, rows-long, times-long, taken-stands, taken-shown}
+use Rattle.program.proofs.Said.{refusal-shown, few-tasks, few-releases, rows-long, times-long, taken-stands, taken-shown}
 use borrow.Author.Needs.{needs}
 use Rattle.program.proofs.answer.Statement.{statement}
 use Rattle.program.proofs.answer.Tie as tie
@@ -28,13 +28,13 @@ same-length : tie.Need-same-length
 same-length c = search needs
 
 returns : tie.Need-returns
-returns c = refusal-shown _ _ _ _ _ _ _ _ _ _ (c .before .before .before .before .enum-told .given .1) (c .before .before .before .before .before .before .before .before .read .ensures .0) refl refl (c .before .before .put-refusal .ensures)
+returns c = refusal-shown _ _ _ _ _ _ _ _ _ _ (c .before .before .before .before .enum-told .given .1) (c .before .before .before .before .before .before .before .before .read .ensures .answer) refl refl (c .before .before .put-refusal .ensures)
 
 mul-t : tie.Need-mul-t
-mul-t c = omega (arith, few-tasks _ _ _ _ _ _ _ _ _ (c .before .taken .given .1) (c .before .before .before .before .before .read .ensures .0))
+mul-t c = omega (arith, few-tasks _ _ _ _ _ _ _ _ _ (c .before .taken .given .1) (c .before .before .before .before .before .read .ensures .answer))
 
 mul-r : tie.Need-mul-r
-mul-r c = omega (arith, few-releases _ _ _ _ _ _ _ _ _ (c .before .taken .given .1) (c .before .before .before .before .before .read .ensures .0))
+mul-r c = omega (arith, few-releases _ _ _ _ _ _ _ _ _ (c .before .taken .given .1) (c .before .before .before .before .before .read .ensures .answer))
 
 sub-put-wish : tie.Need-sub-put-wish
 sub-put-wish c = search needs
@@ -43,7 +43,7 @@ part-put-wish-start : tie.Need-part-put-wish-start
 part-put-wish-start c = search needs
 
 part-put-wish-end : tie.Need-part-put-wish-end
-part-put-wish-end c = omega (arith, rows-long _ _ _ _ _ _ _ _ _ (c .before .before .before .taken .given .1) (c .before .before .before .before .before .before .before .read .ensures .0) _ _ (c .before .before .before .before .before .before .before .read .ensures .1 .0) (c .before .before .before .before .before .before .before .read .ensures .1 .1))
+part-put-wish-end c = omega (arith, rows-long _ _ _ _ _ _ _ _ _ (c .before .before .before .taken .given .1) (c .before .before .before .before .before .before .before .read .ensures .answer) _ _ (c .before .before .before .before .before .before .before .read .ensures .left-tasks) (c .before .before .before .before .before .before .before .read .ensures .left-releases))
 
 sub-put-wish-2 : tie.Need-sub-put-wish-2
 sub-put-wish-2 c = search needs
@@ -52,16 +52,16 @@ part-put-wish-start-2 : tie.Need-part-put-wish-start-2
 part-put-wish-start-2 c = search needs
 
 part-put-wish-end-2 : tie.Need-part-put-wish-end-2
-part-put-wish-end-2 c = omega (arith, times-long _ _ _ _ _ _ _ _ _ (c .before .before .before .before .before .taken .given .1) (c .before .before .before .before .before .before .before .before .before .read .ensures .0) _ _ (c .before .before .before .before .before .before .before .before .before .read .ensures .1 .0) (c .before .before .before .before .before .before .before .before .before .read .ensures .1 .1))
+part-put-wish-end-2 c = omega (arith, times-long _ _ _ _ _ _ _ _ _ (c .before .before .before .before .before .taken .given .1) (c .before .before .before .before .before .before .before .before .before .read .ensures .answer) _ _ (c .before .before .before .before .before .before .before .before .before .read .ensures .left-tasks) (c .before .before .before .before .before .before .before .before .before .read .ensures .left-releases))
 
 put-wish-requires : tie.Need-put-wish-requires
-put-wish-requires c κs = (c .before .before .before .before .before .before .before .before .before .before .before .before .before .before .before .pre, taken-stands _ _ _ _ _ _ _ _ _ (c .before .before .before .before .before .before .taken .given .1) (c .before .before .before .before .before .before .before .before .before .before .read .ensures .0) _ _ (c .before .before .before .before .before .before .before .before .before .before .read .ensures .1 .0) (c .before .before .before .before .before .before .before .before .before .before .read .ensures .1 .1))
+put-wish-requires c κs = (c .before .before .before .before .before .before .before .before .before .before .before .before .before .before .before .pre, taken-stands _ _ _ _ _ _ _ _ _ (c .before .before .before .before .before .before .taken .given .1) (c .before .before .before .before .before .before .before .before .before .before .read .ensures .answer) _ _ (c .before .before .before .before .before .before .before .before .before .before .read .ensures .left-tasks) (c .before .before .before .before .before .before .before .before .before .before .read .ensures .left-releases))
 
 same-length-2 : tie.Need-same-length-2
 same-length-2 c = search needs
 
 returns-2 : tie.Need-returns-2
-returns-2 c = taken-shown _ _ _ _ _ _ _ _ _ (c .before .before .before .before .before .before .before .before .before .taken .given .1) (c .before .before .before .before .before .before .before .before .before .before .before .before .before .read .ensures .0) _ _ (c .before .before .before .before .before .before .before .before .before .before .before .before .before .read .ensures .1 .0) (c .before .before .before .before .before .before .before .before .before .before .before .before .before .read .ensures .1 .1) _ _ _ _ (c .before .before .put-wish .ensures)
+returns-2 c = taken-shown _ _ _ _ _ _ _ _ _ (c .before .before .before .before .before .before .before .before .before .taken .given .1) (c .before .before .before .before .before .before .before .before .before .before .before .before .before .read .ensures .answer) _ _ (c .before .before .before .before .before .before .before .before .before .before .before .before .before .read .ensures .left-tasks) (c .before .before .before .before .before .before .before .before .before .before .before .before .before .read .ensures .left-releases) _ _ _ _ (c .before .before .put-wish .ensures)
 
 pub answer-spec : {M : Type 1} → statement M
 answer-spec =

@@ -1,5 +1,5 @@
 -- `thrumcomb::thrumcomb_read` meets its contract: what `read` answered is told by its case.
-use mathlib.Core.Path.{sym, ap, _∙_}
+use mathlib.Core.Path.{sym, ap}
 use Rattle.rules.specs.Answers.{takenAs}
 use Rattle.thrumcomb.proofs.Tell.{refused, answered}
 use borrow.Author.Needs.{needs}
@@ -32,8 +32,8 @@ same-length-2 c = search needs
 
 returns : tie.Need-returns
 returns c =
-    let told = c .before .before .before .before .before .before .before .read .ensures in
-    (refused (sym (ap takenAs (c .before .answer .given .1)) ∙ told .0), told .1)
+    let call = c .before .before .before .before .before .before .before .read in
+    record { call = call .result; kept = call .ensures; told = refused (sym (ap takenAs (c .before .answer .given .1))) }
 
 same-length-3 : tie.Need-same-length-3
 same-length-3 c = search needs
@@ -43,8 +43,8 @@ same-length-4 c = search needs
 
 returns-2 : tie.Need-returns-2
 returns-2 c =
-    let told = c .before .before .before .before .before .before .before .before .read .ensures in
-    (answered (sym (ap takenAs (c .before .before .answer2 .given .1)) ∙ told .0), told .1)
+    let call = c .before .before .before .before .before .before .before .before .read in
+    record { call = call .result; kept = call .ensures; told = answered (sym (ap takenAs (c .before .before .answer2 .given .1))) }
 
 pub thrumcomb-read-spec : {M : Type 1} → statement M
 thrumcomb-read-spec =

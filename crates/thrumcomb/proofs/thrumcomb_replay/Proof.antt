@@ -1,5 +1,5 @@
 -- `thrumcomb::thrumcomb_replay` meets its contract: what `replay` answered is told by its case.
-use mathlib.Core.Path.{sym, ap, _∙_}
+use mathlib.Core.Path.{sym, ap}
 use Rattle.rules.specs.Answers.{replayedAs}
 use Rattle.thrumcomb.proofs.Tell.{refused, answered}
 use borrow.Author.Needs.{needs}
@@ -29,16 +29,16 @@ same-length c = search needs
 
 returns : tie.Need-returns
 returns c =
-    let told = c .before .before .before .before .before .replay .ensures in
-    (refused (sym (ap replayedAs (c .before .answer .given .1)) ∙ told .0), told .1)
+    let call = c .before .before .before .before .before .replay in
+    record { call = call .result; kept = call .ensures; told = refused (sym (ap replayedAs (c .before .answer .given .1))) }
 
 same-length-2 : tie.Need-same-length-2
 same-length-2 c = search needs
 
 returns-2 : tie.Need-returns-2
 returns-2 c =
-    let told = c .before .before .before .before .before .before .replay .ensures in
-    (answered (sym (ap replayedAs (c .before .before .answer2 .given .1)) ∙ told .0), told .1)
+    let call = c .before .before .before .before .before .before .replay in
+    record { call = call .result; kept = call .ensures; told = answered (sym (ap replayedAs (c .before .before .answer2 .given .1))) }
 
 pub thrumcomb-replay-spec : {M : Type 1} → statement M
 thrumcomb-replay-spec =

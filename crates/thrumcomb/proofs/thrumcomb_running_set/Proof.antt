@@ -1,5 +1,5 @@
 -- `thrumcomb::thrumcomb_running_set` meets its contract: what `running` answered is told by its case.
-use mathlib.Core.Path.{sym, ap, _∙_}
+use mathlib.Core.Path.{sym, ap}
 use Rattle.rules.specs.Answers.{runningAs}
 use Rattle.thrumcomb.proofs.Tell.{refused, answered}
 use borrow.Author.Needs.{needs}
@@ -20,13 +20,13 @@ cast-t14 c = search needs
 
 returns : tie.Need-returns
 returns c =
-    let told = c .before .before .before .running .ensures in
-    refused (sym (ap runningAs (c .before .answer .given .1)) ∙ told)
+    let call = c .before .before .before .running in
+    record { call = call .result; kept = call .ensures; told = refused (sym (ap runningAs (c .before .answer .given .1))) }
 
 returns-2 : tie.Need-returns-2
 returns-2 c =
-    let told = c .before .before .before .before .running .ensures in
-    answered (sym (ap runningAs (c .before .before .answer2 .given .1)) ∙ told)
+    let call = c .before .before .before .before .running in
+    record { call = call .result; kept = call .ensures; told = answered (sym (ap runningAs (c .before .before .answer2 .given .1))) }
 
 pub thrumcomb-running-set-spec : {M : Type 1} → statement M
 thrumcomb-running-set-spec =

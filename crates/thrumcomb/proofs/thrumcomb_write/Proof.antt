@@ -1,5 +1,5 @@
 -- `thrumcomb::thrumcomb_write` meets its contract: what `write` answered is told by its case.
-use mathlib.Core.Path.{sym, ap, _∙_}
+use mathlib.Core.Path.{sym, ap}
 use Rattle.rules.specs.Answers.{writtenAs}
 use Rattle.thrumcomb.proofs.Tell.{refused, answered}
 use borrow.Author.Needs.{needs}
@@ -20,16 +20,16 @@ same-length c = search needs
 
 returns : tie.Need-returns
 returns c =
-    let told = c .before .before .before .before .before .write .ensures in
-    (refused (sym (ap writtenAs (c .before .answer .given .1)) ∙ told .0), told .1)
+    let call = c .before .before .before .before .before .write in
+    record { call = call .result; kept = call .ensures; told = refused (sym (ap writtenAs (c .before .answer .given .1))) }
 
 same-length-2 : tie.Need-same-length-2
 same-length-2 c = search needs
 
 returns-2 : tie.Need-returns-2
 returns-2 c =
-    let told = c .before .before .before .before .before .before .write .ensures in
-    (answered (sym (ap writtenAs (c .before .before .answer2 .given .1)) ∙ told .0), told .1)
+    let call = c .before .before .before .before .before .before .write in
+    record { call = call .result; kept = call .ensures; told = answered (sym (ap writtenAs (c .before .before .answer2 .given .1))) }
 
 pub thrumcomb-write-spec : {M : Type 1} → statement M
 thrumcomb-write-spec =

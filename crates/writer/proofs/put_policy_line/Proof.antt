@@ -3,7 +3,7 @@ use Prim.Native.Nat.{_+_, _≤_, _<_}
 use mathlib.Core.List.{[], _∷_}
 use native.Mathlib.Omega.{arith}
 use lib.ListN.{length, length-append}
-use Rattle.rules.specs.Text.{policyName}
+use Rattle.rules.specs.Policies.{policyName}
 use Rattle.rules.specs.Writer.{policyText, lineText, moreFields}
 use Rattle.puts.specs.Fields.{wordOf}
 use Rattle.puts.proofs.Puts.{laid-byte, laid-then, laid-length}

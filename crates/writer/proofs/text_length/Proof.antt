@@ -2,7 +2,8 @@
 use Prim.Native.Nat.{_*_, _≤_}
 use native.Mathlib.Omega.{arith}
 use Rattle.texts.specs.Digits.{at-most-ten}
-use Rattle.puts.proofs.Lines.{numbers-room, policy-room}
+use Rattle.puts.proofs.Lines.{numbers-room}
+use Rattle.texts.specs.PolicyNames.{nameRoom, name-short}
 use Rattle.writer.proofs.Texts.{case-length}
 use borrow.Author.Needs.{needs}
 use Rattle.writer.proofs.text_length.Statement.{statement}
@@ -15,8 +16,8 @@ width-requires c κs = search needs
 first : (c : tie.After-width) → c .width .result ≤ 10
 first c = omega (arith, c .width .ensures, at-most-ten (c .before .before .before .args .procs))
 
-head : (c : tie.After-policy-width) → c .policy-width .result ≤ 6
-head c = omega (arith, c .policy-width .ensures, policy-room (c .before .before .before .before .args .policy))
+head : (c : tie.After-policy-width) → c .policy-width .result ≤ nameRoom
+head c = omega (arith, c .policy-width .ensures, name-short (c .before .before .before .before .args .policy))
 
 tasks : (c : tie.After-numbers-width) → c .numbers-width .result ≤ 11 * 96
 tasks c =

@@ -5,7 +5,7 @@ use Rattle.rules.specs.declared.Fault.{Fault}
 use Rattle.rules.specs.Case.{Case, caseOf}
 use Rattle.rules.specs.Refusals.{caseFault, roomFault}
 use Rattle.rules.specs.Writer.{caseText}
-use Rattle.checks.proofs.Rows.{enough-room}
+use Rattle.legal.specs.Passing.{room-clear}
 use Rattle.writer.proofs.Answers.{whole, case-at-fault, room-at-fault, none-at-fault, refused, written}
 use borrow.Author.Needs.{needs}
 use Rattle.writer.proofs.write.Statement.{statement}
@@ -50,7 +50,7 @@ enough : (c : tie.Else2) → roomFault (length (caseText (case (c .before .befor
 enough c = ap (λ (f : Fault). f .number) (sym (tested (c .before))) ∙ c .if2 .left
 
 put-case-requires : tie.Need-put-case-requires
-put-case-requires c κs = enough-room _ _ (enough (c .before))
+put-case-requires c κs = room-clear _ _ (enough (c .before))
 
 same-length : tie.Need-same-length
 same-length c = search needs
@@ -60,7 +60,7 @@ returns-3 c =
     let e = c .before .before .before .before in
     let s = e .before .before .before .before .before .before .before .before in
     let room = s .args .out .now in
-    written (case s) room _ _ (none-at-fault (case s) (length room) (clear (e .before .before .before)) (enough e)) (enough-room _ _ (enough e)) (c .before .before .put-case .ensures)
+    written (case s) room _ _ (none-at-fault (case s) (length room) (clear (e .before .before .before)) (enough e)) (room-clear _ _ (enough e)) (c .before .before .put-case .ensures)
 
 pub write-spec : {M : Type 1} → statement M
 write-spec =
