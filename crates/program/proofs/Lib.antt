@@ -1,2 +1,4 @@
 pub mod Taken
 pub mod Said
+pub mod Wishes
+pub mod Faults

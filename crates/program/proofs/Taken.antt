@@ -25,7 +25,7 @@ use Rattle.report.proofs.Answers.{refusal-says}
 
 module _ (s ts rs : List ℕ) where
   -- ---- a refusal
-  read-fault : maxTasks * taskWidth ≤ length ts → maxReleases * releaseWidth ≤ length rs → readFault s (length ts) (length rs) ≡ pick (eqb (textFault s .number) 0) noFault (textFault s)
+  pub read-fault : maxTasks * taskWidth ≤ length ts → maxReleases * releaseWidth ≤ length rs → readFault s (length ts) (length rs) ≡ pick (eqb (textFault s .number) 0) noFault (textFault s)
   unfolding readFault roomFault orNext
   read-fault p q = rw (le-leb (maxTasks * taskWidth) (length ts) p, le-leb (maxReleases * releaseWidth) (length rs) q)
 
