@@ -1,5 +1,4 @@
-pub mod Lines
-pub mod Answers
-pub mod Reports
 pub mod Taken
-pub mod Shows
+pub mod Said
+pub mod Wishes
+pub mod Faults

@@ -9,6 +9,7 @@ use lib.ListN.{length, getD, take, drop, length-append}
 use borrow.Author.Tests.{le-leb}
 use Rattle.rules.specs.Words.{pick}
 use Rattle.rules.specs.declared.Fault.{Fault}
+use Rattle.rules.specs.Limits.{maxTasks, maxReleases, taskWidth, releaseWidth}
 use Rattle.rules.specs.Case.{caseOf, taskCount, releaseCount}
 use Rattle.rules.specs.Refusals.{noFault, orNext, roomFault, Accepted}
 use Rattle.rules.specs.Answers.{refusal, result, settled}
@@ -20,15 +21,15 @@ use Rattle.roundtrip.specs.RoundTrip.{case-accepted}
 use Rattle.roundtrip.specs.CallTrip.{inHand, ReadAs, read-as}
 use Rattle.program.specs.Prints.{caseSays, textSays}
 use Rattle.program.specs.declared.Wish.{Wish}
-use Rattle.program.proofs.Answers.{refusal-says}
+use Rattle.report.proofs.Answers.{refusal-says}
 
 module _ (s ts rs : List ℕ) where
   -- ---- a refusal
-  read-fault : 96 ≤ length ts → 4000 ≤ length rs → readFault s (length ts) (length rs) ≡ pick (eqb (textFault s .number) 0) noFault (textFault s)
+  pub read-fault : maxTasks * taskWidth ≤ length ts → maxReleases * releaseWidth ≤ length rs → readFault s (length ts) (length rs) ≡ pick (eqb (textFault s .number) 0) noFault (textFault s)
   unfolding readFault roomFault orNext
-  read-fault p q = rw (le-leb 96 (length ts) p, le-leb 4000 (length rs) q)
+  read-fault p q = rw (le-leb (maxTasks * taskWidth) (length ts) p, le-leb (maxReleases * releaseWidth) (length rs) q)
 
-  pub refused-text : (w : Wish) (n p : ℕ) → 96 ≤ length ts → 4000 ≤ length rs → refusal n p ≡ readAnswer s ts rs → refusedLine n p ≡ textSays w s
+  pub refused-text : (w : Wish) (n p : ℕ) → maxTasks * taskWidth ≤ length ts → maxReleases * releaseWidth ≤ length rs → refusal n p ≡ readAnswer s ts rs → refusedLine n p ≡ textSays w s
   unfolding readAnswer textSays
   refused-text w n p a b h =
       let e : readFault s (length ts) (length rs) ≡ pick (eqb (textFault s .number) 0) noFault (textFault s) = read-fault a b in
@@ -50,8 +51,8 @@ module _ (s ts rs : List ℕ) where
     pub text-clear : textFault s .number ≡ 0
     unfolding readFault
     text-clear =
-        let t = next-clear (roomFault 96 (length ts)) _ (settled-read .0) in
-        let r = next-clear (roomFault 4000 (length rs)) _ (t .1) in
+        let t = next-clear (roomFault (maxTasks * taskWidth) (length ts)) _ (settled-read .0) in
+        let r = next-clear (roomFault (maxReleases * releaseWidth) (length rs)) _ (t .1) in
         next-clear (textFault s) _ (r .1) .0
 
     stands : Legal (caseIn s)
@@ -68,30 +69,30 @@ module _ (s ts rs : List ℕ) where
     unfolding caseValues
     releases-read = sym (ap (λ l. getD l 4 0) (settled-read .1))
 
-    pub tasks-few : n ≤ 32
+    pub tasks-few : n ≤ maxTasks
     tasks-few = omega (arith, tasks-read, stands .tasks-few)
 
-    pub releases-few : k ≤ 2000
+    pub releases-few : k ≤ maxReleases
     releases-few = omega (arith, releases-read, stands .releases-few)
 
     -- the numbers read are there
-    pub tasks-long : n * 3 ≤ length (readTasks s ts rs)
+    pub tasks-long : n * taskWidth ≤ length (readTasks s ts rs)
     tasks-long =
         omega (arith, tasks-read, stands .threes, ap length (read .tasks-after) ∙ length-append (caseIn s .table) (drop (length (caseIn s .table)) ts))
 
-    pub releases-long : k * 2 ≤ length (readReleases s ts rs)
+    pub releases-long : k * releaseWidth ≤ length (readReleases s ts rs)
     releases-long =
         omega (arith, releases-read, stands .twos, ap length (read .releases-after) ∙ length-append (caseIn s .trace) (drop (length (caseIn s .trace)) rs))
 
     -- what the caller has in hand is the case of the text
-    pub case-read : caseOf m p (take (n * 3) (readTasks s ts rs)) e (take (k * 2) (readReleases s ts rs)) ≡ caseIn s
+    pub case-read : caseOf m p (take (n * taskWidth) (readTasks s ts rs)) e (take (k * releaseWidth) (readReleases s ts rs)) ≡ caseIn s
     unfolding inHand
     case-read = ap (λ l. inHand l (readTasks s ts rs) (readReleases s ts rs)) (sym (settled-read .1)) ∙ read .in-hand
 
-    pub case-stands : Accepted (caseOf m p (take (n * 3) (readTasks s ts rs)) e (take (k * 2) (readReleases s ts rs)))
+    pub case-stands : Accepted (caseOf m p (take (n * taskWidth) (readTasks s ts rs)) e (take (k * releaseWidth) (readReleases s ts rs)))
     case-stands = rw case-read (case-accepted s text-clear)
 
     -- and what is said of it is said of the text
-    pub case-says : (w : Wish) → caseSays w (caseOf m p (take (n * 3) (readTasks s ts rs)) e (take (k * 2) (readReleases s ts rs))) ≡ textSays w s
+    pub case-says : (w : Wish) → caseSays w (caseOf m p (take (n * taskWidth) (readTasks s ts rs)) e (take (k * releaseWidth) (readReleases s ts rs))) ≡ textSays w s
     unfolding textSays
     case-says w = rw (case-read, text-clear)

@@ -1,157 +1,25 @@
 // Reads a case from standard input and prints what is asked of it: what is printed is put into bytes first and then written whole.
+// How it ended is told on descriptor 3 once all else is written (`tell`), since a program of this language has no exit status.
 ghost use mathlib.Core.Path.{_≡_};
-ghost use Prim.Native.Nat.{ℕ, _+_, _*_, _≤_, _<_};
+ghost use Prim.Native.Nat.{_≤_};
 ghost use lib.ListN.{length};
-ghost use Rattle.rules.specs.Case.{caseOf, taskCount, releaseCount};
-ghost use Rattle.rules.specs.Counts.{freeCounts};
-ghost use Rattle.rules.specs.Refusals.{countsFault, Accepted};
+ghost use Rattle.rules.specs.Case.{caseOf};
+ghost use Rattle.rules.specs.Refusals.{Accepted};
 ghost use Rattle.rules.specs.Answers.{takenAs};
-ghost use Rattle.rules.specs.Writer.{caseText};
-ghost use Rattle.rules.specs.Report.{report};
-ghost use Rattle.report.specs.Lines.{lineRoom, Printed};
-ghost use Rattle.program.specs.Prints.{linesText, jobText, countText, slotText, refusalText, caseSays, textSays, Listed, jobRoom, printRoom, Shown, Stands};
+ghost use Rattle.prints.specs.Lines.{lineRoom, Printed};
+ghost use Rattle.report.specs.Cases.{refusalText, printRoom};
+ghost use Rattle.program.specs.Asks.{askedOf, wordAsks, slotAsks, isQuiet, oneAsks, twoAsk, threeAsk, wordsAsk, isKnown, askedFault, wishFault};
+ghost use Rattle.program.specs.Prints.{caseSays, textSays};
 use libc::STDERR_FILENO;
 use libc::STDIN_FILENO;
 use libc::STDOUT_FILENO;
-use rules::Counted;
+use report::put_free_counts;
+use report::put_report;
+use report::put_slot;
+use report::put_text;
+use rules::Fault;
 use rules::Num;
-use rules::Replayed;
-use rules::Running;
 use rules::Taken;
-use rules::Written;
-
-// ---- what is printed of a case
-
-// Writes the job line of release j.
-fn put_release(out: &mut [u8], table: &[u32], trace: &[u32], records: &[u32], j: usize) -> usize
-    requires { ⌜ lineRoom ≤ length (now out) ⌝ }
-    requires { ⌜ Stands (now table) (now trace) (now records) j ⌝ }
-    ensures { λ r. ⌜ Printed (jobText (now (table .entry)) (now (trace .entry)) (now (records .entry)) j) (now (out .entry)) (now (out .exit)) r ⌝ }
-{
-    let time = trace[j * 2];
-    let task = trace[j * 2 + 1];
-    let place = task as usize - 1;
-    let due = time + table[place * 3 + 2];
-    let verdict = records[j * 3];
-    let finish = records[j * 3 + 1];
-    let demotion = records[j * 3 + 2];
-    report::put_job(out, time, task, due, verdict, finish, demotion)
-}
-
-// Writes the job lines, in trace order, from index `at` on.
-fn put_jobs(out: &mut [u8], at: usize, table: &[u32], trace: &[u32], records: &[u32]) -> usize
-    requires { ⌜ at + releaseCount (now trace) * jobRoom + lineRoom ≤ length (now out) ⌝ }
-    requires { ⌜ ((j : ℕ) → j < releaseCount (now trace) → Stands (now table) (now trace) (now records) j) ⌝ }
-    ensures { λ r. ⌜ Listed (jobText (now (table .entry)) (now (trace .entry)) (now (records .entry))) jobRoom at (releaseCount (now (trace .entry))) (now (out .entry)) (now (out .exit)) r ⌝ }
-{
-    let n = trace.len() / 2;
-    let mut end = at;
-    let mut j: usize = 0;
-    while j < n {
-        let length = put_release(&mut out[end..], table, trace, records, j);
-        end = end + length;
-        j += 1;
-    }
-    end
-}
-
-// Writes what the replay of a case says: its run line, its job lines and its total line.
-fn put_report(
-    out: &mut [u8],
-    procs: u32,
-    policy: u32,
-    table: &[u32],
-    end: u32,
-    trace: &[u32],
-) -> usize
-    requires { ⌜ printRoom ≤ length (now out) ⌝ }
-    requires { ⌜ Accepted (caseOf procs policy (now table) end (now trace)) ⌝ }
-    ensures { λ r. ⌜ Shown (report (caseOf procs policy (now (table .entry)) end (now (trace .entry)))) (now (out .entry)) (now (out .exit)) r ⌝ }
-{
-    let mut records = [0u32; 6000];
-    let replayed = engine::replay(procs, policy, table, end, trace, &mut records);
-    match replayed {
-        Replayed::Refused { number, place } => report::put_refused(out, number, place),
-        Replayed::Judged { met, missed, open } => {
-            let tasks = (table.len() / 3) as u32;
-            let releases = (trace.len() / 2) as u32;
-            let at = report::put_run(out, policy, procs, tasks, end);
-            let last = put_jobs(out, at, table, trace, &records);
-            let length = report::put_total(&mut out[last..], releases, met, missed, open);
-            last + length
-        }
-    }
-}
-
-// Writes a line for each of the first n free counts, in table order.
-fn put_count_lines(out: &mut [u8], free: &[u32], n: usize) -> usize
-    requires { ⌜ (n ≤ 32) × (n ≤ length (now free)) × (n * lineRoom ≤ length (now out)) ⌝ }
-    ensures { λ r. ⌜ Listed (countText (now (free .entry))) lineRoom 0 n (now (out .entry)) (now (out .exit)) r ⌝ }
-{
-    let mut end: usize = 0;
-    let mut i: usize = 0;
-    while i < n {
-        let length = report::put_count(&mut out[end..], i as u32 + 1, free[i]);
-        end = end + length;
-        i += 1;
-    }
-    end
-}
-
-// Writes the free count of each task.
-fn put_free_counts(out: &mut [u8], procs: u32, table: &[u32]) -> usize
-    requires { ⌜ printRoom ≤ length (now out) ⌝ }
-    requires { ⌜ countsFault procs (now table) 32 .number ≡ 0 ⌝ }
-    ensures { λ r. ⌜ Shown (linesText (countText (freeCounts procs (now (table .entry)))) (taskCount (now (table .entry)))) (now (out .entry)) (now (out .exit)) r ⌝ }
-{
-    let mut free = [0u32; 32];
-    let counted = counts::counts(procs, table, &mut free);
-    match counted {
-        Counted::Refused { number, place } => report::put_refused(out, number, place),
-        Counted::Counts { tasks } => put_count_lines(out, &free, tasks),
-    }
-}
-
-// Writes which tasks run in a slot.
-fn put_slot(
-    out: &mut [u8],
-    procs: u32,
-    policy: u32,
-    table: &[u32],
-    end: u32,
-    trace: &[u32],
-    slot: u32,
-) -> usize
-    requires { ⌜ printRoom ≤ length (now out) ⌝ }
-    requires { ⌜ Accepted (caseOf procs policy (now table) end (now trace)) ⌝ }
-    ensures { λ r. ⌜ Shown (slotText (caseOf procs policy (now (table .entry)) end (now (trace .entry))) slot) (now (out .entry)) (now (out .exit)) r ⌝ }
-{
-    let ran = engine::running(procs, policy, table, end, trace, slot);
-    match ran {
-        Running::Refused { number, place } => report::put_refused(out, number, place),
-        Running::Ran { set } => report::put_running(out, slot, set),
-    }
-}
-
-// Writes the text of a case.
-fn put_text(
-    out: &mut [u8],
-    procs: u32,
-    policy: u32,
-    table: &[u32],
-    end: u32,
-    trace: &[u32],
-) -> usize
-    requires { ⌜ printRoom ≤ length (now out) ⌝ }
-    requires { ⌜ Accepted (caseOf procs policy (now table) end (now trace)) ⌝ }
-    ensures { λ r. ⌜ Shown (caseText (caseOf procs policy (now (table .entry)) end (now (trace .entry)))) (now (out .entry)) (now (out .exit)) r ⌝ }
-{
-    let written = writer::write(procs, policy, table, end, trace, out);
-    match written {
-        Written::Refused { number, place } => report::put_refused(out, number, place),
-        Written::Text { length } => length,
-    }
-}
 
 // ---- what is asked
 
@@ -168,10 +36,10 @@ pub enum Wish {
 // Writes the line of the reader's refusal.
 fn put_refusal(out: &mut [u8], taken: Taken) -> usize
     requires { ⌜ lineRoom ≤ length (now out) ⌝ }
-    ensures { λ r. ⌜ Printed (refusalText (takenAs taken)) (now (out .entry)) (now (out .exit)) r ⌝ }
+    ensures { λ r. ⌜ Printed lineRoom (refusalText (takenAs taken)) (now (out .entry)) (now (out .exit)) r ⌝ }
 {
     match taken {
-        Taken::Refused { number, place } => report::put_refused(out, number, place),
+        Taken::Refused { number, place } => prints::put_refused(out, number, place),
         Taken::Read {
             procs: _,
             policy: _,
@@ -194,7 +62,7 @@ fn put_wish(
 ) -> usize
     requires { ⌜ printRoom ≤ length (now out) ⌝ }
     requires { ⌜ Accepted (caseOf procs policy (now table) end (now trace)) ⌝ }
-    ensures { λ r. ⌜ Shown (caseSays wish (caseOf procs policy (now (table .entry)) end (now (trace .entry)))) (now (out .entry)) (now (out .exit)) r ⌝ }
+    ensures { λ r. ⌜ Printed printRoom (caseSays wish (caseOf procs policy (now (table .entry)) end (now (trace .entry)))) (now (out .entry)) (now (out .exit)) r ⌝ }
 {
     match wish {
         Wish::Replay => put_report(out, procs, policy, table, end, trace),
@@ -209,7 +77,7 @@ fn put_wish(
 // Writes what a wish asks of the case of a text. A refused case is parted from an accepted one before any line is written.
 fn answer(wish: Wish, text: &[u8], out: &mut [u8]) -> usize
     requires { ⌜ printRoom ≤ length (now out) ⌝ }
-    ensures { λ r. ⌜ Shown (textSays wish (now (text .entry))) (now (out .entry)) (now (out .exit)) r ⌝ }
+    ensures { λ r. ⌜ Printed printRoom (textSays wish (now (text .entry))) (now (out .entry)) (now (out .exit)) r ⌝ }
 {
     let mut rows = [0u32; 96];
     let mut times = [0u32; 4000];
@@ -229,8 +97,24 @@ fn answer(wish: Wish, text: &[u8], out: &mut [u8]) -> usize
     put_wish(out, wish, procs, policy, &rows[0..t], end, &times[0..r])
 }
 
+// ---- what the words of the command line ask
+
+// What is asked, and whether the words of a refusal are left out.
+pub struct Asked {
+    wish: Wish,
+    quiet: bool,
+}
+
+fn asking(wish: Wish, quiet: bool) -> Asked
+    ensures { λ r. ⌜ r ≡ askedOf wish quiet ⌝ }
+{
+    Asked { wish, quiet }
+}
+
 // The wish of the word that stands alone after the program's name.
-fn alone(word: &[u8]) -> Wish {
+fn alone(word: &[u8]) -> Wish
+    ensures { λ r. ⌜ r ≡ wordAsks (now (word .entry)) ⌝ }
+{
     if words::same_bytes(word, b"counts") {
         return Wish::Counts;
     }
@@ -240,11 +124,19 @@ fn alone(word: &[u8]) -> Wish {
     if words::same_bytes(word, b"help") {
         return Wish::Help;
     }
+    if words::same_bytes(word, b"-h") {
+        return Wish::Help;
+    }
+    if words::same_bytes(word, b"--help") {
+        return Wish::Help;
+    }
     Wish::Unknown
 }
 
 // The wish of two words: `slot` and its number.
-fn named_slot(word: &[u8], number: &[u8]) -> Wish {
+fn named_slot(word: &[u8], number: &[u8]) -> Wish
+    ensures { λ r. ⌜ r ≡ slotAsks (now (word .entry)) (now (number .entry)) ⌝ }
+{
     let Num::Value { value } = scan::number(number) else {
         return Wish::Unknown;
     };
@@ -254,45 +146,267 @@ fn named_slot(word: &[u8], number: &[u8]) -> Wish {
     Wish::Unknown
 }
 
-// What the program's words ask for. One that does not fit its room is none of them.
-fn wished() -> Wish {
-    let words = os::arg_count();
-    if words < 2 {
-        return Wish::Replay;
+// Whether a word is `-q`.
+fn is_quiet(word: &[u8]) -> bool
+    ensures { λ r. ⌜ r ≡ isQuiet (now (word .entry)) ⌝ }
+{
+    words::same_bytes(word, b"-q")
+}
+
+// What one word asks.
+fn one_asks(first: &[u8]) -> Asked
+    ensures { λ r. ⌜ r ≡ oneAsks (now (first .entry)) ⌝ }
+{
+    if is_quiet(first) {
+        return asking(Wish::Replay, true);
     }
-    if 3 < words {
-        return Wish::Unknown;
+    asking(alone(first), false)
+}
+
+// What two words ask.
+fn two_ask(first: &[u8], second: &[u8]) -> Asked
+    ensures { λ r. ⌜ r ≡ twoAsk (now (first .entry)) (now (second .entry)) ⌝ }
+{
+    if is_quiet(first) {
+        return asking(alone(second), true);
     }
-    let mut first = [0u8; 8];
-    let n = os::arg(1, &mut first);
-    if os::errno() != 0 {
-        return Wish::Unknown;
+    if is_quiet(second) {
+        return asking(alone(first), true);
     }
-    if words == 2 {
-        return alone(&first[..n]);
+    asking(named_slot(first, second), false)
+}
+
+// What three words ask.
+fn three_ask(first: &[u8], second: &[u8], third: &[u8]) -> Asked
+    ensures { λ r. ⌜ r ≡ threeAsk (now (first .entry)) (now (second .entry)) (now (third .entry)) ⌝ }
+{
+    if is_quiet(first) {
+        return asking(named_slot(second, third), true);
     }
+    if is_quiet(third) {
+        return asking(named_slot(first, second), true);
+    }
+    asking(Wish::Unknown, false)
+}
+
+// What so many words ask, the program's name being one of them.
+fn words_ask(words: usize, first: &[u8], second: &[u8], third: &[u8]) -> Asked
+    ensures { λ r. ⌜ r ≡ wordsAsk words (now (first .entry)) (now (second .entry)) (now (third .entry)) ⌝ }
+{
+    match words {
+        1 => asking(Wish::Replay, false),
+        2 => one_asks(first),
+        3 => two_ask(first, second),
+        4 => three_ask(first, second, third),
+        _ => asking(Wish::Unknown, false),
+    }
+}
+
+// What the program's words ask. One that does not fit its room is taken for an empty one, which asks nothing either.
+fn wished() -> Asked {
+    let mut first = [0u8; 16];
     let mut second = [0u8; 16];
-    let k = os::arg(2, &mut second);
-    if os::errno() != 0 {
-        return Wish::Unknown;
+    let mut third = [0u8; 16];
+    let a = os::arg(1, &mut first);
+    let b = os::arg(2, &mut second);
+    let c = os::arg(3, &mut third);
+    words_ask(os::arg_count(), &first[..a], &second[..b], &third[..c])
+}
+
+// Whether a word is one of the command line's, wherever it stands.
+fn is_known(word: &[u8]) -> bool
+    ensures { λ r. ⌜ r ≡ isKnown (now (word .entry)) ⌝ }
+{
+    if is_quiet(word) {
+        return true;
     }
-    named_slot(&first[..n], &second[..k])
+    if words::same_bytes(word, b"slot") {
+        return true;
+    }
+    let Num::Bad = scan::number(word) else {
+        return true;
+    };
+    let Wish::Unknown = alone(word) else {
+        return true;
+    };
+    false
+}
+
+// ---- what is at fault
+
+// What is at fault in what a wish asks of an accepted case that ends there.
+fn asked_fault(wish: Wish, end: u32) -> Fault
+    ensures { λ r. ⌜ r ≡ askedFault wish end ⌝ }
+{
+    match wish {
+        Wish::Slot { slot } => faults::slot_fault(end, slot),
+        _ => Fault {
+            number: 0,
+            place: 0,
+        },
+    }
+}
+
+// What is at fault in what a wish asks of a text: the refusal that `answer` prints, or number 0 where it prints none.
+fn fault_of(wish: Wish, text: &[u8]) -> Fault
+    ensures { λ r. ⌜ r ≡ wishFault wish (now (text .entry)) ⌝ }
+{
+    let mut rows = [0u32; 96];
+    let mut times = [0u32; 4000];
+    let taken = reader::read(text, &mut rows, &mut times);
+    match taken {
+        Taken::Refused { number, place } => Fault { number, place },
+        Taken::Read {
+            procs: _,
+            policy: _,
+            end,
+            tasks: _,
+            releases: _,
+        } => asked_fault(wish, end),
+    }
 }
 
 // ---- in and out
 
-// Writes all of it, or says on standard error why that cannot be.
-fn write_out(bytes: &[u8]) {
-    if !io::write_all(STDOUT_FILENO, bytes) {
-        os::fail(b"write");
-    }
+// How the program ended: the exit status that is told on the descriptor of outcomes.
+const DONE: u64 = 0;
+
+const FAILED: u64 = 1;
+
+const REFUSED: u64 = 2;
+
+const UNKNOWN: u64 = 64;
+
+// The descriptor that how the program ended is told on. Where it is not open, nobody asked.
+const OUTCOME_FILENO: i32 = 3;
+
+// What was read: whether a read failed, and how many bytes came.
+pub struct Input {
+    failed: bool,
+    length: usize,
 }
 
-fn say_usage(fd: i32) {
+fn came(failed: bool, length: usize) -> Input
+    ensures { λ r. ⌜ r .length ≡ length ⌝ }
+{
+    Input { failed, length }
+}
+
+// Reads until the input ends, a read fails or the room is full. Only a read that answers 0 ends the input: one that fails is told apart.
+fn read_text(fd: i32, text: &mut [u8]) -> Input
+    ensures { λ r. ⌜ r .length ≤ length (now (text .exit)) ⌝ }
+{
+    let mut n: usize = 0;
+    while n < text.len() {
+        let got = libc::read(fd, &mut text[n..]);
+        if got < 0 {
+            return came(true, n);
+        }
+        let more = io::count(got, &text[n..]);
+        if more == 0 {
+            return came(false, n);
+        }
+        n += more;
+    }
+    came(false, n)
+}
+
+// Tells how the program ended, once all else is written.
+fn tell(outcome: u64) {
+    io::print_decimal(OUTCOME_FILENO, outcome);
+}
+
+// Says on standard error what failed and why, by errno.
+fn fail(what: &[u8]) {
+    os::fail(what);
+    tell(FAILED);
+}
+
+// Says a sentence on standard error.
+fn say(words: &[u8]) {
+    io::write_all(STDERR_FILENO, b"thrumcomb: ");
+    io::write_all(STDERR_FILENO, words);
+    io::write_all(STDERR_FILENO, b"\n");
+}
+
+// Says a refusal in words.
+fn say_refusal(fault: Fault) {
+    let mut words = [0u8; 100];
+    let n = reasons::put_reason(&mut words, fault.number, fault.place);
+    say(&words[..n]);
+}
+
+fn say_usage(fd: i32) -> bool {
     io::write_all(
         fd,
-        b"usage: thrumcomb [counts | slot N | write | help] < CASE\n",
-    );
+        b"usage: thrumcomb [-q] [counts | slot N | write] < CASE
+       thrumcomb help | -h | --help | --version
+
+without a word  the replay: run, a job line for each release, total
+counts          the contention-free count of each task
+slot N          the tasks that run in slot N
+write           the case in its canonical text
+-q              leaves out the words on standard error for a refused case
+
+The exit status is 0; 2 for a refused case; 64 for words that ask for nothing that there is;
+1 where the case could not be read, the answer not be written, or the program not be built.
+",
+    )
+}
+
+// Says which word is not known: its first bytes where it is long.
+fn say_word(i: usize) {
+    let mut word = [0u8; 64];
+    let n = os::arg(i, &mut word);
+    let long = os::errno() != 0;
+    io::write_all(STDERR_FILENO, b"thrumcomb: unknown word: ");
+    if long {
+        io::write_all(STDERR_FILENO, &word);
+        io::write_all(STDERR_FILENO, b"..\n");
+        return;
+    }
+    io::write_all(STDERR_FILENO, &word[..n]);
+    io::write_all(STDERR_FILENO, b"\n");
+}
+
+// Whether word i is one of the command line's, wherever it stands.
+fn knows(i: usize) -> bool {
+    let mut word = [0u8; 16];
+    let n = os::arg(i, &mut word);
+    is_known(&word[..n])
+}
+
+// The first of so many words that is none of the command line's, or their number where each is one.
+fn odd_word(words: usize) -> usize {
+    let mut i: usize = 1;
+    while i < words {
+        if !knows(i) {
+            return i;
+        }
+        i += 1;
+    }
+    words
+}
+
+// Says why the words ask for nothing, and what may be asked.
+fn say_unknown() {
+    let words = os::arg_count();
+    let i = odd_word(words);
+    if i < words {
+        say_word(i);
+    } else {
+        say(b"these words do not go together");
+    }
+    say_usage(STDERR_FILENO);
+    tell(UNKNOWN);
+}
+
+fn print_help() {
+    if say_usage(STDOUT_FILENO) {
+        tell(DONE);
+    } else {
+        fail(b"thrumcomb: write");
+    }
 }
 
 // The bytes that everything printed fits into.
@@ -302,20 +416,46 @@ fn blank() -> [u8; 132800]
     [0; 132800]
 }
 
-// Reads the case, of which one byte more than a text may have is enough to refuse it, and writes the answer.
-fn run(wish: Wish) {
+// Tells how a case was answered whose answer is written.
+fn finish(fault: Fault, quiet: bool) {
+    let number = fault.number;
+    if number == 0 {
+        tell(DONE);
+        return;
+    }
+    if !quiet {
+        say_refusal(fault);
+    }
+    tell(REFUSED);
+}
+
+// Reads the case, of which one byte more than a text may have is enough to refuse it, and writes the answer. Where a read failed nothing is
+// written: what came may be a shorter case than what was there.
+fn run(wish: Wish, quiet: bool) {
     let mut text = [0u8; 60001];
     let mut out = blank();
-    let n = io::read_full(STDIN_FILENO, &mut text);
+    let input = read_text(STDIN_FILENO, &mut text);
+    if input.failed {
+        fail(b"thrumcomb: read");
+        return;
+    }
+    let n = input.length;
+    let fault = fault_of(wish, &text[..n]);
     let length = answer(wish, &text[..n], &mut out);
-    write_out(&out[..length]);
+    if io::write_all(STDOUT_FILENO, &out[..length]) {
+        finish(fault, quiet);
+    } else {
+        fail(b"thrumcomb: write");
+    }
 }
 
 fn main() {
-    let wish = wished();
+    let words = wished();
+    let wish = words.wish;
+    let quiet = words.quiet;
     match wish {
-        Wish::Unknown => say_usage(STDERR_FILENO),
-        Wish::Help => say_usage(STDOUT_FILENO),
-        _ => run(wish),
+        Wish::Unknown => say_unknown(),
+        Wish::Help => print_help(),
+        _ => run(wish, quiet),
     }
 }

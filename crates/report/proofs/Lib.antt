@@ -1,2 +1,4 @@
 pub mod Lines
-pub mod Members
+pub mod Answers
+pub mod Reports
+pub mod Commands

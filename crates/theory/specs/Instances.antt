@@ -31,22 +31,22 @@ tight policy = caseOf 1 policy (4 ∷ 1 ∷ 4 ∷ 4 ∷ 3 ∷ 3 ∷ []) 4 (0 ∷
 abbrev pub crowded : Case
 crowded = caseOf 2 edfCf (10 ∷ 2 ∷ 6 ∷ 10 ∷ 2 ∷ 3 ∷ 10 ∷ 3 ∷ 7 ∷ []) 10 (0 ∷ 1 ∷ 0 ∷ 2 ∷ 0 ∷ 3 ∷ [])
 
--- the cases are accepted
-pub accepted-A : Accepted (caseA edfCf 10)
+-- the cases are accepted: the tests are computed
+accepted : Accepted (caseA edfCf 10) × Accepted (caseA edfCf 1) × Accepted (tight edfCf) × Accepted crowded
 unfolding Accepted caseFault orNext firstOf procsFault policyFault tableFault taskFault endFault traceFault inOrder lastBefore releaseFault
-accepted-A = refl
+accepted = (refl, refl, refl, refl)
+
+pub accepted-A : Accepted (caseA edfCf 10)
+accepted-A = accepted .0
 
 pub accepted-A-cut : Accepted (caseA edfCf 1)
-unfolding Accepted caseFault orNext firstOf procsFault policyFault tableFault taskFault endFault traceFault inOrder lastBefore releaseFault
-accepted-A-cut = refl
+accepted-A-cut = accepted .1
 
 pub accepted-tight : Accepted (tight edfCf)
-unfolding Accepted caseFault orNext firstOf procsFault policyFault tableFault taskFault endFault traceFault inOrder lastBefore releaseFault
-accepted-tight = refl
+accepted-tight = accepted .2
 
 pub accepted-crowded : Accepted crowded
-unfolding Accepted caseFault orNext firstOf procsFault policyFault tableFault taskFault endFault traceFault inOrder lastBefore releaseFault
-accepted-crowded = refl
+accepted-crowded = accepted .3
 
 -- set A: task 3 is missed under EDF and met under EDF-CF; task 1 is demoted at 0 and met at 2, where EDF meets it at 1
 pub set-A : (recordBy (caseA edf 10) 10 2 ≡ recordOf 2 0 0) × (recordBy (caseA edfCf 10) 10 2 ≡ recordOf 1 5 0)

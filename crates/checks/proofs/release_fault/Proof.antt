@@ -4,6 +4,7 @@ use mathlib.Core.List.{List, [], _∷_}
 use Prim.Native.Nat.{ℕ, _-_, _≤_}
 use native.Mathlib.Omega.{arith}
 use lib.ListN.{getD}
+use Rattle.rules.specs.Limits.{maxTasks}
 use Rattle.rules.specs.Case.{period, nameOf, taskCount}
 use Rattle.rules.specs.Refusals.{orNext, first, lastBefore, releaseFault}
 use Rattle.rules.specs.declared.Fault.{Fault}
@@ -41,7 +42,7 @@ found c =
     (c .before .before .in-order .ensures) (c .before .before .before .before .refuse-unless .ensures) (c .before .before .before .refuse-unless2 .ensures) (c .before .refuse-unless3 .ensures) (c .first-of-three .ensures)
 
 -- where they find nothing the release names a task of the table, of which there are few
-bounds : (c : tie.Else1) → (1 ≤ named-by (c .before)) × (named-by (c .before) ≤ taskCount (table (c .before))) × (named-by (c .before) ≤ 32)
+bounds : (c : tie.Else1) → (1 ≤ named-by (c .before)) × (named-by (c .before) ≤ taskCount (table (c .before))) × (named-by (c .before) ≤ maxTasks)
 bounds c =
     let d = c .before in
     let w = near-named (table d) (start d .args .end) (trace d) (j d) (row-passed _ (near d) (found d) (c .if1 .left)) in

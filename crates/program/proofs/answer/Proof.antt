@@ -1,7 +1,7 @@
 -- `program::answer` meets its contract: the reader's refusal alone, or what the wish asks of the case that was read.
 use mathlib.Core.Path.{refl}
 use native.Mathlib.Omega.{arith}
-use Rattle.program.proofs.Shows.{refusal-shown, few-tasks, few-releases, rows-long, times-long, taken-stands, taken-shown}
+use Rattle.program.proofs.Said.{refusal-shown, few-tasks, few-releases, rows-long, times-long, taken-stands, taken-shown}
 use borrow.Author.Needs.{needs}
 use Rattle.program.proofs.answer.Statement.{statement}
 use Rattle.program.proofs.answer.Tie as tie

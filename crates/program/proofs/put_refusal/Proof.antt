@@ -1,5 +1,5 @@
 -- `program::put_refusal` meets its contract.
-use Rattle.program.proofs.Shows.{refusal-put, nothing-put}
+use Rattle.program.proofs.Said.{refusal-put, nothing-put}
 use borrow.Author.Needs.{needs}
 use Rattle.program.proofs.put_refusal.Statement.{statement}
 use Rattle.program.proofs.put_refusal.Tie as tie

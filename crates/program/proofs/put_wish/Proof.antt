@@ -1,7 +1,7 @@
 -- `program::put_wish` meets its contract: each wish is answered by its writer.
 use Rattle.program.specs.Prints.{caseSays}
-use Rattle.program.proofs.Answers.{counts-fits}
-use Rattle.program.proofs.Shows.{wish-shown, nothing-shown}
+use Rattle.report.proofs.Answers.{counts-fits}
+use Rattle.program.proofs.Said.{wish-shown, nothing-shown}
 use borrow.Author.Needs.{needs}
 use Rattle.program.proofs.put_wish.Statement.{statement}
 use Rattle.program.proofs.put_wish.Tie as tie

@@ -1,0 +1,69 @@
+-- `prints::put_running` meets its contract: it is a line of numbers, the slot first and then the tasks of the set.
+use mathlib.Core.Path.{_≡_, refl}
+use mathlib.Core.List.{_∷_}
+use Prim.Native.Nat.{_-_, _≤_}
+use borrow.Author.Needs.{needs}
+use native.Mathlib.Omega.{arith}
+use lib.ListN.{length, take}
+use Rattle.rules.specs.Limits.{maxTasks}
+use Rattle.rules.specs.Report.{spaceByte}
+use Rattle.puts.specs.Fields.{numberLine, wordOf}
+use Rattle.prints.specs.Lines.{lineRoom, membersOf, runningLine}
+use Rattle.prints.proofs.Lines.{line-short, members-few, slot-first}
+use Rattle.prints.proofs.put_running.Statement.{statement}
+use Rattle.prints.proofs.put_running.Tie as tie
+
+-- the numbers of the line, and that it is not too long
+numbers : (c : tie.After-put-members)
+    → take (c .put-members .result - 0) (c .put-members .last .0) ≡ c .before .before .before .args .slot ∷ membersOf (c .before .before .before .args .set) maxTasks
+numbers c = slot-first _ _ _ _ _ (members-few (c .before .before .before .args .set) maxTasks) (c .put-members .ensures)
+
+short : (c : tie.Start) → length (numberLine spaceByte 10 (c .args .slot ∷ membersOf (c .args .set) maxTasks)) ≤ lineRoom
+unfolding wordOf
+short c = line-short 10 (c .args .slot ∷ membersOf (c .args .set) maxTasks) (omega arith) (omega (arith, members-few (c .args .set) maxTasks))
+
+slice-aggregate-put-members : tie.Need-slice-aggregate-put-members
+slice-aggregate-put-members c = refl
+
+put-members-requires : tie.Need-put-members-requires
+put-members-requires c κs = omega arith
+
+sub-put-line : tie.Need-sub-put-line
+sub-put-line c = omega arith
+
+part-put-line-start : tie.Need-part-put-line-start
+part-put-line-start c = search needs
+
+part-put-line-end : tie.Need-part-put-line-end
+part-put-line-end c =
+    let put = c .before .before .before .put-members in
+    omega (arith, put .ensures .behind, put .kept .0, members-few (c .before .before .before .before .before .before .args .set) maxTasks)
+
+put-line-requires : tie.Need-put-line-requires
+put-line-requires c κs =
+    let start = c .before .before .before .before .before .before .before in
+    rw (numbers (c .before .before .before .before)) (omega (arith, short start, start .pre))
+
+same-length : tie.Need-same-length
+same-length c = search needs
+
+returns : tie.Need-returns
+unfolding wordOf runningLine
+returns c =
+    let put = c .before .before .put-line in
+    let start = c .before .before .before .before .before .before .before .before .before .before in
+    let laid = rw (numbers (c .before .before .before .before .before .before .before)) at (put .ensures) in
+    record { laid = laid; short = omega (arith, laid .behind, short start) }
+
+pub put-running-spec : {M : Type 1} → statement M
+put-running-spec =
+    tie.close
+    (tie.spec
+    slice-aggregate-put-members
+    put-members-requires
+    sub-put-line
+    part-put-line-start
+    part-put-line-end
+    put-line-requires
+    same-length
+    returns)

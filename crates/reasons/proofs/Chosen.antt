@@ -1,0 +1,88 @@
+-- The words that a number chooses, as they are laid, and how long they can be.
+use mathlib.Core.Path.{_≡_, refl}
+use mathlib.Core.List.{List, [], _∷_}
+use Prim.Native.Nat.{ℕ, zero, suc, _≤_}
+use native.Mathlib.Omega.{arith}
+use lib.ListN.{length, getD, length-append, List·getD-eq-default}
+use Rattle.texts.specs.Digits.{at-most-ten}
+use Rattle.puts.specs.Laid.{Laid}
+use Rattle.reasons.specs.Reasons.{signBytes, words, reasons, plainReason, reasonOf, reasonRoom, Said}
+
+-- ---- how long
+abbrev Short : List (List ℕ) → Type 0
+Short [] = Unit {0}
+Short (s ∷ ss) = (length s ≤ reasonRoom) × Short ss
+
+short-at : (ss : List (List ℕ)) (d : List ℕ) (n : ℕ) → Short ss → length d ≤ reasonRoom → length (getD ss n d) ≤ reasonRoom
+short-at [] d n h g = g
+short-at (s ∷ ss) d zero h g = h .0
+short-at (s ∷ ss) d (suc n) h g = short-at ss d n (h .1) g
+
+plain-short : (n p : ℕ) → length (plainReason n p) ≤ reasonRoom
+unfolding words signBytes
+plain-short n p = simp length-append (omega (arith, at-most-ten n, at-most-ten p))
+
+pub reason-short : (n p : ℕ) → length (reasonOf n p) ≤ reasonRoom
+unfolding reasonOf words signBytes
+reason-short n p =
+    short-at (plainReason n p ∷ reasons p) (plainReason n p) n (
+      plain-short n p,
+      (
+        omega arith,
+        (
+          simp length-append (omega (arith, at-most-ten p)),
+          (
+            simp length-append (omega (arith, at-most-ten p)),
+            (
+              omega arith,
+              (
+                omega arith,
+                (
+                  simp length-append (omega (arith, at-most-ten p)),
+                  (
+                    omega arith,
+                    (
+                      simp length-append (omega (arith, at-most-ten p)),
+                      (
+                        simp length-append (omega (arith, at-most-ten p)),
+                        (simp length-append (omega (arith, at-most-ten p)), (simp length-append (omega (arith, at-most-ten p)), (omega arith, (omega arith, (omega arith, (omega arith, tt)))))),
+                      ),
+                    ),
+                  ),
+                ),
+              ),
+            ),
+          ),
+        ),
+      ),
+    )
+    (plain-short n p)
+
+-- ---- by the number
+said : {text old new : List ℕ} {end : ℕ} (n p : ℕ) → text ≡ reasonOf n p → Laid 0 text old new end → Said (reasonOf n p) old new end
+said n p f l = let m = rw f at l in record { laid = m; short = omega (arith, m .behind, reason-short n p) }
+
+-- what is laid are the words of the number k, and the refusal's number is k
+pub chosen : {n : ℕ} {text old new : List ℕ} {end : ℕ} (p k : ℕ) → n ≡ k → text ≡ reasonOf k p → Laid 0 text old new end → Said (reasonOf n p) old new end
+chosen p k e f l = rw e (said k p f l)
+
+-- a number that is none of 1 to k, as a match says it in its last arm
+abbrev pub Outside : ℕ → ℕ → Type 0
+Outside zero n = Unit {0}
+Outside (suc k) n = Outside k n × (n ≡ suc k → ⊥)
+
+above : (k n : ℕ) → 1 ≤ n → Outside k n → suc k ≤ n
+above zero n h o = h
+above (suc k) n h o = next (o .1) (above k n h (o .0))
+  where
+    next : {k n : ℕ} → (n ≡ suc k → ⊥) → suc k ≤ n → suc (suc k) ≤ n
+    next f b = omega (arith, f)
+
+-- a number with no words of its own
+beyond : (n p : ℕ) → Outside 15 n → plainReason n p ≡ reasonOf n p
+unfolding reasonOf
+beyond zero p o = refl
+beyond (suc n) p o = rw (List·getD-eq-default (plainReason (suc n) p ∷ reasons p) (plainReason (suc n) p) (above 15 (suc n) (omega arith) o))
+
+pub plainly : {old new : List ℕ} {end : ℕ} (n p : ℕ) → Outside 15 n → Laid 0 (plainReason n p) old new end → Said (reasonOf n p) old new end
+plainly n p o l = said n p (beyond n p o) l

@@ -1,0 +1,307 @@
+-- `reasons::put_reason` meets its contract: in each arm the words are known by the number.
+use mathlib.Core.Path.{refl}
+use Rattle.reasons.specs.Reasons.{signBytes, words, reasonOf}
+use Rattle.reasons.proofs.Chosen.{chosen, plainly}
+use borrow.Author.Needs.{needs}
+use Rattle.reasons.proofs.put_reason.Statement.{statement}
+use Rattle.reasons.proofs.put_reason.Tie as tie
+
+slice-aggregate-put-bytes : tie.Need-slice-aggregate-put-bytes
+slice-aggregate-put-bytes c = search needs
+
+put-bytes-requires : tie.Need-put-bytes-requires
+put-bytes-requires c κs = search needs
+
+slice-aggregate-put-placed : tie.Need-slice-aggregate-put-placed
+slice-aggregate-put-placed c = search needs
+
+slice-aggregate-put-placed-2 : tie.Need-slice-aggregate-put-placed-2
+slice-aggregate-put-placed-2 c = search needs
+
+put-placed-requires : tie.Need-put-placed-requires
+put-placed-requires c κs = search needs
+
+slice-aggregate-put-placed-3 : tie.Need-slice-aggregate-put-placed-3
+slice-aggregate-put-placed-3 c = search needs
+
+slice-aggregate-put-placed-4 : tie.Need-slice-aggregate-put-placed-4
+slice-aggregate-put-placed-4 c = search needs
+
+put-placed-requires-2 : tie.Need-put-placed-requires-2
+put-placed-requires-2 c κs = search needs
+
+slice-aggregate-put-bytes-2 : tie.Need-slice-aggregate-put-bytes-2
+slice-aggregate-put-bytes-2 c = search needs
+
+put-bytes-requires-2 : tie.Need-put-bytes-requires-2
+put-bytes-requires-2 c κs = search needs
+
+slice-aggregate-put-bytes-3 : tie.Need-slice-aggregate-put-bytes-3
+slice-aggregate-put-bytes-3 c = search needs
+
+put-bytes-requires-3 : tie.Need-put-bytes-requires-3
+put-bytes-requires-3 c κs = search needs
+
+slice-aggregate-put-placed-5 : tie.Need-slice-aggregate-put-placed-5
+slice-aggregate-put-placed-5 c = search needs
+
+slice-aggregate-put-placed-6 : tie.Need-slice-aggregate-put-placed-6
+slice-aggregate-put-placed-6 c = search needs
+
+put-placed-requires-3 : tie.Need-put-placed-requires-3
+put-placed-requires-3 c κs = search needs
+
+slice-aggregate-put-bytes-4 : tie.Need-slice-aggregate-put-bytes-4
+slice-aggregate-put-bytes-4 c = search needs
+
+put-bytes-requires-4 : tie.Need-put-bytes-requires-4
+put-bytes-requires-4 c κs = search needs
+
+slice-aggregate-put-placed-7 : tie.Need-slice-aggregate-put-placed-7
+slice-aggregate-put-placed-7 c = search needs
+
+slice-aggregate-put-placed-8 : tie.Need-slice-aggregate-put-placed-8
+slice-aggregate-put-placed-8 c = search needs
+
+put-placed-requires-4 : tie.Need-put-placed-requires-4
+put-placed-requires-4 c κs = search needs
+
+slice-aggregate-put-placed-9 : tie.Need-slice-aggregate-put-placed-9
+slice-aggregate-put-placed-9 c = search needs
+
+slice-aggregate-put-placed-10 : tie.Need-slice-aggregate-put-placed-10
+slice-aggregate-put-placed-10 c = search needs
+
+put-placed-requires-5 : tie.Need-put-placed-requires-5
+put-placed-requires-5 c κs = search needs
+
+slice-aggregate-put-placed-11 : tie.Need-slice-aggregate-put-placed-11
+slice-aggregate-put-placed-11 c = search needs
+
+slice-aggregate-put-placed-12 : tie.Need-slice-aggregate-put-placed-12
+slice-aggregate-put-placed-12 c = search needs
+
+put-placed-requires-6 : tie.Need-put-placed-requires-6
+put-placed-requires-6 c κs = search needs
+
+slice-aggregate-put-placed-13 : tie.Need-slice-aggregate-put-placed-13
+slice-aggregate-put-placed-13 c = search needs
+
+slice-aggregate-put-placed-14 : tie.Need-slice-aggregate-put-placed-14
+slice-aggregate-put-placed-14 c = search needs
+
+put-placed-requires-7 : tie.Need-put-placed-requires-7
+put-placed-requires-7 c κs = search needs
+
+slice-aggregate-put-bytes-5 : tie.Need-slice-aggregate-put-bytes-5
+slice-aggregate-put-bytes-5 c = search needs
+
+put-bytes-requires-5 : tie.Need-put-bytes-requires-5
+put-bytes-requires-5 c κs = search needs
+
+slice-aggregate-put-bytes-6 : tie.Need-slice-aggregate-put-bytes-6
+slice-aggregate-put-bytes-6 c = search needs
+
+put-bytes-requires-6 : tie.Need-put-bytes-requires-6
+put-bytes-requires-6 c κs = search needs
+
+slice-aggregate-put-bytes-7 : tie.Need-slice-aggregate-put-bytes-7
+slice-aggregate-put-bytes-7 c = search needs
+
+put-bytes-requires-7 : tie.Need-put-bytes-requires-7
+put-bytes-requires-7 c κs = search needs
+
+slice-aggregate-put-bytes-8 : tie.Need-slice-aggregate-put-bytes-8
+slice-aggregate-put-bytes-8 c = search needs
+
+put-bytes-requires-8 : tie.Need-put-bytes-requires-8
+put-bytes-requires-8 c κs = search needs
+
+put-plain-requires : tie.Need-put-plain-requires
+put-plain-requires c κs = search needs
+
+same-length : tie.Need-same-length
+same-length c = search needs
+
+returns : tie.Need-returns
+unfolding reasonOf words signBytes
+returns c = chosen (c .before .before .before .before .before .before .before .args .place) 1 (c .before .before .before .before .before .match .keys1) refl (c .before .before .put-bytes .ensures)
+
+same-length-2 : tie.Need-same-length-2
+same-length-2 c = search needs
+
+returns-2 : tie.Need-returns-2
+unfolding reasonOf words signBytes
+returns-2 c = chosen (c .before .before .before .before .before .before .before .before .args .place) 2 (c .before .before .before .before .before .before .match .keys2) refl (c .before .before .put-placed .ensures)
+
+same-length-3 : tie.Need-same-length-3
+same-length-3 c = search needs
+
+returns-3 : tie.Need-returns-3
+unfolding reasonOf words signBytes
+returns-3 c = chosen (c .before .before .before .before .before .before .before .before .args .place) 3 (c .before .before .before .before .before .before .match .keys3) refl (c .before .before .put-placed2 .ensures)
+
+same-length-4 : tie.Need-same-length-4
+same-length-4 c = search needs
+
+returns-4 : tie.Need-returns-4
+unfolding reasonOf words signBytes
+returns-4 c = chosen (c .before .before .before .before .before .before .before .args .place) 4 (c .before .before .before .before .before .match .keys4) refl (c .before .before .put-bytes2 .ensures)
+
+same-length-5 : tie.Need-same-length-5
+same-length-5 c = search needs
+
+returns-5 : tie.Need-returns-5
+unfolding reasonOf words signBytes
+returns-5 c = chosen (c .before .before .before .before .before .before .before .args .place) 5 (c .before .before .before .before .before .match .keys5) refl (c .before .before .put-bytes3 .ensures)
+
+same-length-6 : tie.Need-same-length-6
+same-length-6 c = search needs
+
+returns-6 : tie.Need-returns-6
+unfolding reasonOf words signBytes
+returns-6 c = chosen (c .before .before .before .before .before .before .before .before .args .place) 6 (c .before .before .before .before .before .before .match .keys6) refl (c .before .before .put-placed3 .ensures)
+
+same-length-7 : tie.Need-same-length-7
+same-length-7 c = search needs
+
+returns-7 : tie.Need-returns-7
+unfolding reasonOf words signBytes
+returns-7 c = chosen (c .before .before .before .before .before .before .before .args .place) 7 (c .before .before .before .before .before .match .keys7) refl (c .before .before .put-bytes4 .ensures)
+
+same-length-8 : tie.Need-same-length-8
+same-length-8 c = search needs
+
+returns-8 : tie.Need-returns-8
+unfolding reasonOf words signBytes
+returns-8 c = chosen (c .before .before .before .before .before .before .before .before .args .place) 8 (c .before .before .before .before .before .before .match .keys8) refl (c .before .before .put-placed4 .ensures)
+
+same-length-9 : tie.Need-same-length-9
+same-length-9 c = search needs
+
+returns-9 : tie.Need-returns-9
+unfolding reasonOf words signBytes
+returns-9 c = chosen (c .before .before .before .before .before .before .before .before .args .place) 9 (c .before .before .before .before .before .before .match .keys9) refl (c .before .before .put-placed5 .ensures)
+
+same-length-10 : tie.Need-same-length-10
+same-length-10 c = search needs
+
+returns-10 : tie.Need-returns-10
+unfolding reasonOf words signBytes
+returns-10 c = chosen (c .before .before .before .before .before .before .before .before .args .place) 10 (c .before .before .before .before .before .before .match .keys10) refl (c .before .before .put-placed6 .ensures)
+
+same-length-11 : tie.Need-same-length-11
+same-length-11 c = search needs
+
+returns-11 : tie.Need-returns-11
+unfolding reasonOf words signBytes
+returns-11 c = chosen (c .before .before .before .before .before .before .before .before .args .place) 11 (c .before .before .before .before .before .before .match .keys11) refl (c .before .before .put-placed7 .ensures)
+
+same-length-12 : tie.Need-same-length-12
+same-length-12 c = search needs
+
+returns-12 : tie.Need-returns-12
+unfolding reasonOf words signBytes
+returns-12 c = chosen (c .before .before .before .before .before .before .before .args .place) 12 (c .before .before .before .before .before .match .keys12) refl (c .before .before .put-bytes5 .ensures)
+
+same-length-13 : tie.Need-same-length-13
+same-length-13 c = search needs
+
+returns-13 : tie.Need-returns-13
+unfolding reasonOf words signBytes
+returns-13 c = chosen (c .before .before .before .before .before .before .before .args .place) 13 (c .before .before .before .before .before .match .keys13) refl (c .before .before .put-bytes6 .ensures)
+
+same-length-14 : tie.Need-same-length-14
+same-length-14 c = search needs
+
+returns-14 : tie.Need-returns-14
+unfolding reasonOf words signBytes
+returns-14 c = chosen (c .before .before .before .before .before .before .before .args .place) 14 (c .before .before .before .before .before .match .keys14) refl (c .before .before .put-bytes7 .ensures)
+
+same-length-15 : tie.Need-same-length-15
+same-length-15 c = search needs
+
+returns-15 : tie.Need-returns-15
+unfolding reasonOf words signBytes
+returns-15 c = chosen (c .before .before .before .before .before .before .before .args .place) 15 (c .before .before .before .before .before .match .keys15) refl (c .before .before .put-bytes8 .ensures)
+
+same-length-16 : tie.Need-same-length-16
+same-length-16 c = search needs
+
+returns-16 : tie.Need-returns-16
+returns-16 c = plainly (c .before .before .before .before .before .before .args .number) (c .before .before .before .before .before .before .args .place) (c .before .before .before .before .match .rest) (c .before .before .put-plain .ensures)
+
+pub put-reason-spec : {M : Type 1} → statement M
+put-reason-spec =
+    tie.close
+    (tie.spec
+    slice-aggregate-put-bytes
+    put-bytes-requires
+    slice-aggregate-put-placed
+    slice-aggregate-put-placed-2
+    put-placed-requires
+    slice-aggregate-put-placed-3
+    slice-aggregate-put-placed-4
+    put-placed-requires-2
+    slice-aggregate-put-bytes-2
+    put-bytes-requires-2
+    slice-aggregate-put-bytes-3
+    put-bytes-requires-3
+    slice-aggregate-put-placed-5
+    slice-aggregate-put-placed-6
+    put-placed-requires-3
+    slice-aggregate-put-bytes-4
+    put-bytes-requires-4
+    slice-aggregate-put-placed-7
+    slice-aggregate-put-placed-8
+    put-placed-requires-4
+    slice-aggregate-put-placed-9
+    slice-aggregate-put-placed-10
+    put-placed-requires-5
+    slice-aggregate-put-placed-11
+    slice-aggregate-put-placed-12
+    put-placed-requires-6
+    slice-aggregate-put-placed-13
+    slice-aggregate-put-placed-14
+    put-placed-requires-7
+    slice-aggregate-put-bytes-5
+    put-bytes-requires-5
+    slice-aggregate-put-bytes-6
+    put-bytes-requires-6
+    slice-aggregate-put-bytes-7
+    put-bytes-requires-7
+    slice-aggregate-put-bytes-8
+    put-bytes-requires-8
+    put-plain-requires
+    same-length
+    returns
+    same-length-2
+    returns-2
+    same-length-3
+    returns-3
+    same-length-4
+    returns-4
+    same-length-5
+    returns-5
+    same-length-6
+    returns-6
+    same-length-7
+    returns-7
+    same-length-8
+    returns-8
+    same-length-9
+    returns-9
+    same-length-10
+    returns-10
+    same-length-11
+    returns-11
+    same-length-12
+    returns-12
+    same-length-13
+    returns-13
+    same-length-14
+    returns-14
+    same-length-15
+    returns-15
+    same-length-16
+    returns-16)

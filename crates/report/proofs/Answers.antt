@@ -1,0 +1,102 @@
+-- What the calls on an accepted case answer: no refusal but that of a slot beyond its end, and the values of the rules.
+use mathlib.Core.Path.{_≡_, refl, sym, ap, _∙_}
+use mathlib.Core.Bool.{Bool, true, false}
+use mathlib.Core.List.{List, [], _∷_}
+use Prim.Native.Nat.{ℕ, _*_, _≤_}
+use native.Mathlib.Omega.{arith}
+use lib.Dec.{eqb, ltb}
+use lib.ListN.{getD}
+use borrow.Author.Tests.{le-leb}
+use Rattle.rules.specs.Words.{pick}
+use Rattle.rules.specs.declared.Fault.{Fault}
+use Rattle.rules.specs.Limits.{maxTasks, maxReleases, recordWidth}
+use Rattle.rules.specs.Case.{Case, taskCount, releaseCount}
+use Rattle.rules.specs.Refusals.{noFault, unless, orNext, procsFault, policyFault, tableFault, tasksFault, roomFault, slotFault, caseFault, countsFault, replayFault, runningFault, Accepted}
+use Rattle.rules.specs.Answers.{refusal, result, settled}
+use Rattle.rules.specs.Replay.{runningSet}
+use Rattle.rules.specs.Calls.{runningAnswer}
+use Rattle.rules.specs.Writer.{writeFault}
+use Rattle.rules.specs.Report.{refusedLine}
+use Rattle.legal.specs.Legal.{legal, next-clear}
+use Rattle.legal.specs.Settled.{settled-clear, valuesOf, no-refusal, settled-result}
+use Rattle.roundtrip.specs.CaseLines.{text-fits}
+use Rattle.roundtrip.specs.CallTrip.{write-clear}
+use Rattle.prints.specs.Lines.{runningLine}
+use Rattle.report.specs.Cases.{slotText, refusalText, printRoom}
+
+-- ---- answers
+-- where nothing is at fault there is no refusal; the values of a result are those
+pub never-refused : (f : Fault) (vs : List ℕ) (n p : ℕ) → f .number ≡ 0 → refusal n p ≡ settled f vs → ⊥
+never-refused f vs n p e h = no-refusal n p vs (h ∙ settled-clear f vs e)
+
+pub values-are : (f : Fault) (vs ws : List ℕ) → result ws ≡ settled f vs → ws ≡ vs
+values-are f vs ws h = sym (settled-result f vs ws (sym h) .1)
+
+-- a refusal comes of the fault that it names
+pub refusal-says : (f : Fault) (vs : List ℕ) (n p : ℕ) → refusal n p ≡ settled f vs
+    → (eqb (f .number) 0 ≡ false) × (refusedLine n p ≡ refusedLine (f .number) (f .place))
+unfolding settled
+refusal-says f vs n p h = go (eqb (f .number) 0) refl h
+  where
+    go : (b : Bool) → eqb (f .number) 0 ≡ b → refusal n p ≡ pick b (result vs) (refusal (f .number) (f .place))
+        → (eqb (f .number) 0 ≡ false) × (refusedLine n p ≡ refusedLine (f .number) (f .place))
+    go true q e = absurd (no-refusal n p vs e)
+    go false q e = (q, ap refusalText e)
+
+-- ---- the rooms are long enough
+pub replay-fits : (c : Case) → Accepted c → replayFault c (maxReleases * recordWidth) .number ≡ 0
+unfolding replayFault Accepted roomFault orNext
+replay-fits c h =
+    let g : releaseCount (c .trace) * recordWidth ≤ maxReleases * recordWidth = omega (arith, legal c h .releases-few) in
+    rw (h, le-leb (releaseCount (c .trace) * recordWidth) (maxReleases * recordWidth) g)
+
+pub write-fits : (c : Case) (room : ℕ) → Accepted c → printRoom ≤ room → writeFault c room .number ≡ 0
+write-fits c room h p = write-clear c room h (omega (arith, text-fits c h, p))
+
+table-clear : (c : Case) → Accepted c → (procsFault (c .procs) .number ≡ 0) × (tableFault (c .table) .number ≡ 0) × (tasksFault (c .table) .number ≡ 0)
+unfolding Accepted caseFault
+table-clear c e =
+    let f1 = next-clear (procsFault (c .procs)) _ e in
+    let f2 = next-clear (policyFault (c .policy)) _ (f1 .1) in
+    let f3 = next-clear (tableFault (c .table)) _ (f2 .1) in
+    let f4 = next-clear (tasksFault (c .table)) _ (f3 .1) in
+    (f1 .0, f3 .0, f4 .0)
+
+pub counts-fits : (c : Case) → Accepted c → countsFault (c .procs) (c .table) maxTasks .number ≡ 0
+unfolding countsFault roomFault orNext
+counts-fits c h =
+    let t = table-clear c h in
+    let a : procsFault (c .procs) .number ≡ 0 = t .0 in
+    let b : tableFault (c .table) .number ≡ 0 = t .1 in
+    let d : tasksFault (c .table) .number ≡ 0 = t .2 in
+    rw (a, b, d, le-leb (taskCount (c .table)) maxTasks (legal c h .tasks-few))
+
+-- ---- the running set: refused where the slot is beyond the end
+slot-fault : (c : Case) (s : ℕ) → Accepted c → runningFault c s ≡ unless (ltb s (c .end)) 15 0
+unfolding runningFault Accepted slotFault orNext
+slot-fault c s h = rw h (go (ltb s (c .end)))
+  where
+    go : (b : Bool) → pick (eqb (unless b 15 0 .number) 0) noFault (unless b 15 0) ≡ unless b 15 0
+    go true = refl
+    go false = refl
+
+module _ (c : Case) (s : ℕ) (ok : Accepted c) where
+  running-is : runningAnswer c s ≡ settled (unless (ltb s (c .end)) 15 0) (runningSet c s ∷ [])
+  unfolding runningAnswer
+  running-is = ap (λ f. settled f (runningSet c s ∷ [])) (slot-fault c s ok)
+
+  pub slot-refused : (n p : ℕ) → refusal n p ≡ runningAnswer c s → refusedLine n p ≡ slotText c s
+  unfolding settled
+  slot-refused n p h = go (ltb s (c .end)) (h ∙ running-is)
+    where
+      go : (b : Bool) → refusal n p ≡ settled (unless b 15 0) (runningSet c s ∷ []) → refusedLine n p ≡ pick b (runningLine s (runningSet c s)) (refusedLine 15 0)
+      go true e = absurd (no-refusal n p _ e)
+      go false e = ap refusalText e
+
+  pub slot-ran : (set : ℕ) → result (set ∷ []) ≡ runningAnswer c s → runningLine s set ≡ slotText c s
+  unfolding settled
+  slot-ran set h = go (ltb s (c .end)) (h ∙ running-is)
+    where
+      go : (b : Bool) → result (set ∷ []) ≡ settled (unless b 15 0) (runningSet c s ∷ []) → runningLine s set ≡ pick b (runningLine s (runningSet c s)) (refusedLine 15 0)
+      go true e = ap (λ a. runningLine s (getD (valuesOf a) 0 0)) e
+      go false e = absurd (no-refusal 15 0 _ (sym e))

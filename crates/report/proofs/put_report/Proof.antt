@@ -1,0 +1,125 @@
+-- `report::put_report` meets its contract: the run line, the job lines behind it, and the total line in the part from their end on.
+use Prim.Native.Nat.{_+_, _*_, _≤_}
+use native.Mathlib.Omega.{arith}
+use lib.ListN.{length}
+use Rattle.rules.specs.Limits.{maxReleases}
+use Rattle.rules.specs.Case.{releaseCount}
+use Rattle.legal.specs.Legal.{legal}
+use Rattle.puts.proofs.Puts.{laid-part, part-length}
+use Rattle.prints.specs.Lines.{lineRoom, jobRoom}
+use Rattle.report.specs.Cases.{linesText, jobText}
+use Rattle.report.proofs.Answers.{replay-fits}
+use Rattle.report.proofs.Reports.{stands, fits, jobs-are, report-laid}
+use Rattle.report.proofs.Commands.{replay-accepts, replay-totals}
+use borrow.Author.Needs.{needs}
+use Rattle.report.proofs.put_report.Statement.{statement}
+use Rattle.report.proofs.put_report.Tie as tie
+
+slice-aggregate-replay : tie.Need-slice-aggregate-replay
+slice-aggregate-replay c = search needs
+
+replay-requires : tie.Need-replay-requires
+replay-requires c κs = search needs
+
+enum-known-replayed : tie.Need-enum-known-replayed
+enum-known-replayed c = search needs
+
+put-refused-requires : tie.Need-put-refused-requires
+put-refused-requires c κs = search needs
+
+enum-known-replayed-2 : tie.Need-enum-known-replayed-2
+enum-known-replayed-2 c = search needs
+
+cast-tasks : tie.Need-cast-tasks
+cast-tasks c = omega (arith, legal _ (c .before .before .before .before .before .before .before .before .before .pre .1) .tasks-few)
+
+cast-releases : tie.Need-cast-releases
+cast-releases c = omega (arith, legal _ (c .before .before .before .before .before .before .before .before .before .pre .1) .releases-few)
+
+put-run-requires : tie.Need-put-run-requires
+put-run-requires c κs = search needs
+
+slice-aggregate-put-jobs : tie.Need-slice-aggregate-put-jobs
+slice-aggregate-put-jobs c = search needs
+
+put-jobs-requires : tie.Need-put-jobs-requires
+put-jobs-requires c κs =
+    let ok = c .before .before .before .before .before .before .before .before .before .before .before .before .before .before .before .pre .1 in
+    let run = c .before .before .before .before .put-run in
+    let fit = fits _ ok _ _ (c .before .before .before .before .before .before .before .before .before .before .replay .ensures .left) (replay-fits _ ok) in
+    (omega (arith, run .ensures .short, run .kept .0, legal _ ok .releases-few, c .before .before .before .before .before .before .before .before .before .before .before .before .before .before .before .pre .0), stands _ ok _ fit)
+
+-- the total line has room behind the job lines
+room : (c : tie.After-put-jobs) → (c .put-jobs .result + lineRoom ≤ length (c .put-jobs .last .0)) × (c .put-jobs .result ≤ lineRoom + maxReleases * jobRoom)
+room c =
+    let run = c .before .before .before .before .before .put-run in
+    let start = c .before .before .before .before .before .before .before .before .before .before .before .before .before .before .before .before in
+    omega (arith, c .put-jobs .ensures .short, c .put-jobs .kept .0, run .ensures .short, run .kept .0, legal _ (start .pre .1) .releases-few, start .pre .0)
+
+sub-put-total : tie.Need-sub-put-total
+sub-put-total c = omega (arith, room (c .before .before))
+
+part-put-total-start : tie.Need-part-put-total-start
+part-put-total-start c = omega (arith, room (c .before .before))
+
+part-put-total-end : tie.Need-part-put-total-end
+part-put-total-end c = search needs
+
+put-total-requires : tie.Need-put-total-requires
+put-total-requires c κs = omega (arith, room (c .before .before .before), part-length (c .before .before .before .put-jobs .result) (c .before .before .before .put-jobs .last .0))
+
+add-result : tie.Need-add-result
+add-result c = omega (arith, room (c .before .before .before .before .before .before), c .before .before .put-total .ensures .short)
+
+same-length : tie.Need-same-length
+same-length c = search needs
+
+returns : tie.Need-returns
+returns c = absurd (replay-accepts _ _ _ (replay-fits _ (c .before .before .before .before .before .before .before .before .before .before .before .before .before .pre .1)) (c .before .before .before .before .before .before .before .before .replay .ensures .answer) _ _ (c .before .before .before .before .before .replayed .given .1))
+
+same-length-2 : tie.Need-same-length-2
+same-length-2 c = search needs
+
+returns-2 : tie.Need-returns-2
+returns-2 c =
+    let start = c .before .before .before .before .before .before .before .before .before .before .before .before .before .before .before .before .before .before .before .before .before .before in
+    let replay = c .before .before .before .before .before .before .before .before .before .before .before .before .before .before .before .before .before .replay in
+    let judged = c .before .before .before .before .before .before .before .before .before .before .before .before .before .before .replayed2 .given .1 in
+    let run = c .before .before .before .before .before .before .before .before .before .before .before .put-run in
+    let jobs = c .before .before .before .before .before .before .put-jobs in
+    let total = c .before .before .put-total in
+    let fit = replay-fits _ (start .pre .1) in
+    let h : jobs .result ≤ length (jobs .last .0) = omega (arith, room (c .before .before .before .before .before .before)) in
+    record {
+      laid = report-laid _ _ _ _ _ (linesText (jobText (start .args .table .now) (start .args .trace .now) (replay .last .1 .1 .1 .1 .1 .0)) (releaseCount (start .args .trace .now))) _ _ _ _ _ _
+          (run .ensures .laid)
+          (jobs .ensures .laid)
+          (jobs-are _ (start .pre .1) _ _ (replay .ensures .left) fit)
+          (laid-part _ _ _ _ _ h (total .ensures .laid))
+          (replay-totals _ _ _ fit (replay .ensures .answer) _ _ _ judged);
+      short = omega (arith, room (c .before .before .before .before .before .before), total .ensures .short);
+    }
+
+pub put-report-spec : {M : Type 1} → statement M
+put-report-spec =
+    tie.close
+    (tie.spec
+    slice-aggregate-replay
+    replay-requires
+    enum-known-replayed
+    put-refused-requires
+    enum-known-replayed-2
+    cast-tasks
+    cast-releases
+    put-run-requires
+    slice-aggregate-put-jobs
+    put-jobs-requires
+    sub-put-total
+    part-put-total-start
+    part-put-total-end
+    put-total-requires
+    add-result
+    same-length
+    returns
+    same-length-2
+    returns-2)
