@@ -1,5 +1,6 @@
 -- The kind that a word opens is the kind of what its fields say, unless that is badly formed.
-use mathlib.Core.Path.{refl}
+use mathlib.Core.Path.{_≡_, refl, ap}
+use mathlib.Core.Bool.{true}
 use mathlib.Core.List.{List}
 use Prim.Native.Nat.{ℕ}
 use lib.Dec.{eqb}
@@ -8,10 +9,11 @@ use Rattle.rules.specs.declared.Num.{Num}
 use Rattle.rules.specs.declared.Num.the-variants as Num·
 use Rattle.rules.specs.declared.Line.{Line}
 use Rattle.rules.specs.declared.Line.the-variants.{Bad, Procs, Policy, Row, End, Release}
-use Rattle.rules.specs.Text.{numberIn, fieldOf, afterField}
+use Rattle.rules.specs.Text.{same, numberIn, fieldOf, afterField, releaseWord}
 use Rattle.rules.specs.Policies.{policyOf}
-use Rattle.rules.specs.Reader.{withNumber, oneNumber, twoNumbers, threeNumbers, policyIn, fieldsSay}
+use Rattle.rules.specs.Reader.{withNumber, oneNumber, twoNumbers, threeNumbers, policyIn, wordKind, fieldsSay, lineSays}
 use Rattle.lists.specs.Lists.{picked}
+use Rattle.texts.specs.Fields.{same-true}
 use Rattle.kinds.specs.Says.{Opens}
 
 bad-opens : (k : ℕ) → Opens k Bad
@@ -46,3 +48,13 @@ fields-open k s =
     (λ _. picked (Opens k) (eqb k 3) _ _ (λ e. rw (eqb-true k 3 e) (three-opens 3 s Row (λ a b d _. refl)))
     (λ _. picked (Opens k) (eqb k 4) _ _ (λ e. rw (eqb-true k 4 e) (one-opens 4 s End (λ a _. refl)))
     (λ _. picked (Opens k) (eqb k 5) _ _ (λ e. rw (eqb-true k 5 e) (two-opens 5 s Release (λ a b _. refl))) (λ _. bad-opens k)))))
+
+-- the word of a release opens its kind
+pub release-kind : (w : List ℕ) → same w releaseWord ≡ true → wordKind w ≡ 5
+unfolding wordKind same
+release-kind w e = rw (same-true w releaseWord e)
+
+-- and a line with that word says what two numbers say
+pub release-line : (s : List ℕ) → same (fieldOf s) releaseWord ≡ true → lineSays s ≡ fieldsSay 5 (afterField s)
+unfolding lineSays
+release-line s e = ap (λ (k : ℕ). fieldsSay k (afterField s)) (release-kind (fieldOf s) e)

@@ -134,6 +134,21 @@ pub fn line_says(s: &[u8]) -> Said
     Said { kind, line }
 }
 
+// The same, for a line that is most likely a release, as nearly all lines of a text are: that word is looked for first.
+pub fn release_says(s: &[u8]) -> Said
+    ensures { λ r. ⌜ Says (now (s .entry)) r ⌝ }
+{
+    let word = field(s);
+    if same_bytes(word, b"release") {
+        let line = release_fields(after_field(s, word.len()));
+        return Said {
+            kind: RELEASE,
+            line,
+        };
+    }
+    line_says(s)
+}
+
 // Whether a line of that kind may follow one of kind `before`, which is 0 before the first line.
 pub fn may_follow(before: u32, kind: u32) -> bool
     ensures { λ r. ⌜ r ≡ mayFollow before kind ⌝ }

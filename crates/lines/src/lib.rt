@@ -90,6 +90,29 @@ pub fn next_line(text: &[u8], at: usize) -> Step
     }
 }
 
+// The same, for a line that is most likely a release.
+pub fn next_release(text: &[u8], at: usize) -> Step
+    requires { ⌜ at < length (now text) ⌝ }
+    ensures { λ r. ⌜ NextLine (now (text .entry)) at r ⌝ }
+{
+    let end = scan::line_end(text, at);
+    if end < text.len() {
+        let found = kinds::release_says(scan::line(text, at, end));
+        let said = found.line;
+        Step {
+            kind: found.kind,
+            said,
+            next: end + 1,
+        }
+    } else {
+        Step {
+            kind: 0,
+            said: Line::Bad,
+            next: end,
+        }
+    }
+}
+
 // What is at fault with line n, whose word opens that kind, after a line of kind `before`: 2 before 3.
 pub fn line_fault(before: u32, kind: u32, said: Line, n: u32) -> Fault
     requires { ⌜ Opens kind said ⌝ }
@@ -263,7 +286,7 @@ pub fn release_line(
     requires { ⌜ Whole traceRoom releaseWidth releases (now trace) ⌝ }
     ensures { λ r. ⌜ ReleaseLine (now (text .entry)) at n releases (now (trace .entry)) r (now (trace .exit)) ⌝ }
 {
-    let step = next_line(text, at);
+    let step = next_release(text, at);
     let said = step.said;
     let fault = line_fault(END, step.kind, said, n);
     let kept = keep_release(trace, releases, said);

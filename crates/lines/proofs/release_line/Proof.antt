@@ -7,11 +7,11 @@ use borrow.Author.Needs.{needs}
 use Rattle.lines.proofs.release_line.Statement.{statement}
 use Rattle.lines.proofs.release_line.Tie as tie
 
-next-line-requires : tie.Need-next-line-requires
-next-line-requires c κs = search needs
+next-release-requires : tie.Need-next-release-requires
+next-release-requires c κs = search needs
 
 line-fault-requires : tie.Need-line-fault-requires
-line-fault-requires c κs = c .next-line .ensures .opens
+line-fault-requires c κs = c .next-release .ensures .opens
 
 keep-release-requires : tie.Need-keep-release-requires
 keep-release-requires c κs = search needs
@@ -23,7 +23,7 @@ returns : tie.Need-returns
 returns c =
     let kept = c .before .before in
     let asked = kept .before .before in
-    let line = asked .before .next-line .ensures in
+    let line = asked .before .next-release .ensures in
     let start = asked .before .before .before .before in
     record {
       fault = asked .line-fault .ensures ∙ ap (λ (l : Line). lineFault caseOrder 4 (kindOf l) (start .args .n)) (line .said);
@@ -36,4 +36,4 @@ returns c =
 pub release-line-spec : {M : Type 1} → statement M
 release-line-spec =
     tie.close
-    (tie.spec next-line-requires line-fault-requires keep-release-requires same-length returns)
+    (tie.spec next-release-requires line-fault-requires keep-release-requires same-length returns)
