@@ -1,17 +1,16 @@
 -- The kind that a word opens is the kind of what its fields say, unless that is badly formed.
-use mathlib.Core.Path.{_≡_, refl}
+use mathlib.Core.Path.{refl}
 use mathlib.Core.List.{List}
 use Prim.Native.Nat.{ℕ}
 use lib.Dec.{eqb}
 use borrow.Author.Tests.{eqb-true}
-use Rattle.rules.specs.Words.{pick}
 use Rattle.rules.specs.declared.Num.{Num}
 use Rattle.rules.specs.declared.Num.the-variants as Num·
 use Rattle.rules.specs.declared.Line.{Line}
 use Rattle.rules.specs.declared.Line.the-variants.{Bad, Procs, Policy, Row, End, Release}
 use Rattle.rules.specs.Text.{numberIn, fieldOf, afterField}
 use Rattle.rules.specs.Policies.{policyOf}
-use Rattle.rules.specs.Reader.{withNumber, oneNumber, twoNumbers, threeNumbers, policyIn, fieldsSay, kindOf}
+use Rattle.rules.specs.Reader.{withNumber, oneNumber, twoNumbers, threeNumbers, policyIn, fieldsSay}
 use Rattle.lists.specs.Lists.{picked}
 use Rattle.kinds.specs.Says.{Opens}
 

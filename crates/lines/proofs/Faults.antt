@@ -3,7 +3,7 @@
 use mathlib.Core.Path.{_≡_, refl, sym, _∙_}
 use mathlib.Core.Bool.{Bool, true, false, not}
 use mathlib.Core.List.{List, [], _∷_}
-use Prim.Native.Nat.{ℕ, suc, _<_}
+use Prim.Native.Nat.{ℕ, suc}
 use native.Mathlib.Omega.{arith}
 use lib.Dec.{eqb}
 use borrow.Author.Tests.{eqb-true, eqb-false, ne-eqb, not-true}
@@ -12,8 +12,7 @@ use Rattle.rules.specs.Refusals.{faultOf, noFault, unless, orNext}
 use Rattle.rules.specs.Reader.{kindOf, Order, linesFault}
 use Rattle.rules.specs.declared.Fault.{Fault}
 use Rattle.rules.specs.declared.Line.{Line}
-use Rattle.legal.specs.Firsts.{next-none}
-use Rattle.legal.specs.Legal.{next-clear, unless-clear}
+use Rattle.legal.specs.Firsts.{unless-clear, unless-none, next-none, next-clear}
 use Rattle.kinds.specs.Says.{Opens}
 use Rattle.lines.specs.Held.{lineFault}
 
@@ -25,10 +24,6 @@ next-last f h = go (eqb (f .number) 0) refl
     go : (b : Bool) → eqb (f .number) 0 ≡ b → pick b noFault f ≡ f
     go true e = sym (h (eqb-true _ _ e))
     go false e = refl
-
-unless-none : (b : Bool) (n p : ℕ) → 0 < n → unless b n p .number ≡ 0 → unless b n p ≡ noFault
-unless-none true n p h e = refl
-unless-none false n p h e = absurd (omega arith)
 
 -- of two tests that find something, what follows them is not asked
 two-hit : (a b r : Fault) → (orNext a (orNext b noFault) .number ≡ 0 → ⊥) → orNext a (orNext b noFault) ≡ orNext a (orNext b r)

@@ -5,12 +5,12 @@ use Prim.Native.Nat.{ℕ}
 use native.Mathlib.Omega.{arith}
 use lib.ListN.{length, take, drop, length-take}
 use lib.Seq.{take-all}
-use Rattle.rules.specs.Case.{Case, caseOf}
-use Rattle.rules.specs.Reader.{linesOf, caseOrder, linesFault, policyWhenAbsent, caseIn}
+use Rattle.rules.specs.Case.{caseOf}
+use Rattle.rules.specs.Reader.{linesOf, caseOrder, linesFault, caseIn}
 use Rattle.rules.specs.declared.Fault.{Fault}
 use Rattle.lines.specs.declared.HeadRead.{HeadRead}
 use Rattle.lines.specs.declared.ReleasesRead.{ReleasesRead}
-use Rattle.lines.specs.Held.{tableRoom, traceRoom, clip, keptCase, traceOf}
+use Rattle.lines.specs.Held.{tableRoom, traceRoom, clip, keptCase}
 use Rattle.lines.specs.Gathers.{Heads, Releases, Gathers}
 use Rattle.lines.proofs.Releasing.{releases-said}
 

@@ -18,11 +18,11 @@ use Rattle.kinds.specs.Says.{Opens}
 use Rattle.kinds.proofs.Order.{not-release, not-other}
 use Rattle.lines.specs.declared.Head.{Head}
 use Rattle.lines.specs.declared.HeadRead.{HeadRead}
-use Rattle.lines.specs.Held.{tableRoom, traceRoom, clip, keptCase, lineFault, nextSays, noLines, headWith, rowNumbers, releaseNumbers, Whole, Added}
-use Rattle.lines.specs.Gathers.{Reading, InHead, HeadLine}
+use Rattle.lines.specs.Held.{tableRoom, traceRoom, clip, keptCase, lineFault, nextSays, noLines, headWith, rowNumbers, releaseNumbers, Added}
+use Rattle.lines.specs.Gathers.{InHead}
 use Rattle.lines.proofs.Faults.{line-follows}
 use Rattle.lines.proofs.Keeps.{kept-line}
-use Rattle.lines.proofs.Reading.{reading-none, reading-stop, reading-end, reading-on}
+use Rattle.lines.proofs.Reading.{reading-none, reading-end, reading-on}
 
 -- what may follow a line before `end` is at most `end`
 head-follows : (b k : ℕ) → b < 4 → mayFollow b k ≡ true → k ≤ 4

@@ -1,10 +1,10 @@
 -- Laws of `clip`: what is kept of a case with one more line is made of what was kept of the case and of that line.
 use mathlib.Core.Path.{_≡_, refl, sym, ap, ap₂, _∙_}
 use mathlib.Core.List.{List, [], _∷_, _++_, append-nil}
-use Prim.Native.Nat.{ℕ, zero, suc, _≤_}
+use Prim.Native.Nat.{ℕ, zero, suc}
 use native.Mathlib.Omega.{arith}
-use lib.ListN.{take, length-take}
-use lib.Seq.{take-take, take-all}
+use lib.ListN.{take}
+use lib.Seq.{take-take}
 use Rattle.rules.specs.Case.{Case, caseOf}
 use Rattle.rules.specs.Reader.{withLine, withLines}
 use Rattle.rules.specs.declared.Line.{Line}

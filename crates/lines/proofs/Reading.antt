@@ -1,6 +1,6 @@
 -- The state of the reader between two lines, under any order of lines: the answer of the whole text is that of what is kept and what is
 -- unread. One law for each way through a line: it is at fault, it is missing, it is read.
-use mathlib.Core.Path.{_≡_, refl, sym, ap, ap₂, _∙_}
+use mathlib.Core.Path.{_≡_, refl, sym, ap, _∙_}
 use mathlib.Core.List.{List, [], _∷_}
 use Prim.Native.Nat.{ℕ, _+_, _≤_, _<_}
 use native.Mathlib.Numerals.{add-one}

@@ -1,7 +1,7 @@
 -- The release lines: between two of them, what is at fault with them all is what is at fault with those unread, and their trace is what is
 -- kept with the trace of those unread. And what they add to a case is their trace.
 use mathlib.Core.Path.{_≡_, refl, sym, ap, _∙_}
-use mathlib.Core.Bool.{true, not}
+use mathlib.Core.Bool.{not}
 use mathlib.Core.List.{List, [], _∷_, _++_, append-assoc, append-nil}
 use Prim.Native.Nat.{ℕ, suc, _+_, _≤_, _<_}
 use native.Mathlib.Omega.{arith}
@@ -17,7 +17,7 @@ use Rattle.rules.specs.Reader.{kindOf, linesOf, mayFollow, mayStop, caseOrder, 
 use Rattle.rules.specs.declared.Fault.{Fault}
 use Rattle.rules.specs.declared.Line.{Line}
 use Rattle.rules.specs.declared.Line.the-variants.{Bad, Procs, Policy, Row, End, Release}
-use Rattle.legal.specs.Legal.{next-clear, unless-clear}
+use Rattle.legal.specs.Firsts.{unless-clear, next-clear}
 use Rattle.texts.specs.LinesOf.{end-release}
 use Rattle.lines.specs.Held.{traceRoom, lineFault, nextSays, releaseNumbers, traceOf, Whole, Added}
 use Rattle.lines.specs.Gathers.{Releases}

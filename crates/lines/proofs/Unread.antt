@@ -1,6 +1,6 @@
 -- Laws of `linesOf`: the lines of a text are what its first line says and the lines of what is unread after it, which starts behind the
 -- newline at which the line ends.
-use mathlib.Core.Path.{_≡_, refl, sym, ap, _∙_}
+use mathlib.Core.Path.{_≡_, sym, ap, _∙_}
 use mathlib.Core.List.{List, _∷_}
 use Prim.Native.Nat.{ℕ, suc, _+_, _≤_, _<_}
 use native.Mathlib.Omega.{arith}

@@ -2,7 +2,7 @@
 // the case that the lines say, kept as far as it matters.
 ghost use mathlib.Core.Path.{_≡_};
 ghost use Prim.Native.Nat.{_+_, _≤_, _<_};
-ghost use lib.ListN.{length, drop};
+ghost use lib.ListN.{length};
 ghost use Rattle.rules.specs.Limits.{maxText, taskWidth, releaseWidth};
 ghost use Rattle.rules.specs.Reader.{kindOf, caseOrder};
 ghost use Rattle.kinds.specs.Says.{Opens};
@@ -96,12 +96,12 @@ pub fn line_fault(before: u32, kind: u32, said: Line, n: u32) -> Fault
     ensures { λ r. ⌜ r ≡ lineFault caseOrder before (kindOf said) n ⌝ }
 {
     if let Line::Bad = said {
-        return checks::fault(2, n);
+        return faults::fault(2, n);
     }
     if kinds::may_follow(before, kind) {
-        return checks::fault(0, 0);
+        return faults::fault(0, 0);
     }
-    checks::fault(3, n)
+    faults::fault(3, n)
 }
 
 // The head before the first line; without a policy line the policy is EDF.
@@ -119,7 +119,7 @@ pub fn no_head() -> Head
 fn no_lines() -> HeadRead
     ensures { λ r. ⌜ r ≡ noLines ⌝ }
 {
-    let fault = checks::fault(0, 0);
+    let fault = faults::fault(0, 0);
     let head = no_head();
     HeadRead {
         fault,
@@ -209,7 +209,7 @@ fn head_line(text: &[u8], top: HeadRead, table: &mut [u32]) -> HeadRead
     let at = top.next;
     let line = top.line;
     if at == text.len() {
-        let missing = checks::fault(3, line);
+        let missing = faults::fault(3, line);
         return HeadRead {
             fault: missing,
             ..top
@@ -298,7 +298,7 @@ pub fn read_releases(text: &[u8], at: usize, n: u32, trace: &mut [u32]) -> Relea
         line += 1;
         next = step.next;
     }
-    let fault = checks::fault(0, 0);
+    let fault = faults::fault(0, 0);
     ReleasesRead { fault, releases }
 }
 

@@ -2,7 +2,7 @@
 -- the lines, in the case, nowhere.
 use mathlib.Core.Path.{_≡_, refl, sym, ap, _∙_}
 use mathlib.Core.Bool.{Bool, true, false}
-use mathlib.Core.List.{List, [], _∷_, _++_}
+use mathlib.Core.List.{List}
 use Prim.Native.Nat.{ℕ, _*_, _≤_}
 use native.Mathlib.Omega.{arith}
 use lib.Dec.{eqb, leb}
@@ -13,12 +13,11 @@ use Rattle.rules.specs.Limits.{maxTasks, maxReleases, maxText, taskWidth, relea
 use Rattle.rules.specs.Case.{Case}
 use Rattle.rules.specs.Refusals.{noFault, unless, orNext, roomFault, caseFault}
 use Rattle.rules.specs.Answers.{refusal, settled, kept, takenAs}
-use Rattle.rules.specs.Reader.{linesOf, caseOrder, linesFault, caseIn, lengthFault, textFault, readFault, caseValues, readAnswer, readTasks, readReleases}
+use Rattle.rules.specs.Reader.{linesOf, caseOrder, linesFault, caseIn, lengthFault, textFault, readFault, readAnswer, readTasks, readReleases}
 use Rattle.rules.specs.Calls.{ReadPromise}
 use Rattle.rules.specs.declared.Fault.{Fault}
 use Rattle.rules.specs.declared.Taken.{Taken}
-use Rattle.legal.specs.Firsts.{next-none, next-some}
-use Rattle.legal.specs.Legal.{next-clear, unless-clear}
+use Rattle.legal.specs.Firsts.{unless-clear, next-none, next-some, next-clear, stop}
 use Rattle.reader.specs.Reads.{roomsFault, PutsCase}
 
 -- a number that is not 0 stays so under an equation
@@ -29,7 +28,7 @@ still f g e h z = h (ap (λ (u : Fault). u .number) e ∙ z)
 module _ (s : List ℕ) where
   pub text-long : (f : Fault) → f ≡ lengthFault s → (f .number ≡ 0 → ⊥) → f ≡ textFault s
   unfolding textFault
-  text-long f e h = e ∙ sym (next-some (lengthFault s) _ (still f _ e h))
+  text-long f e h = stop f (lengthFault s) _ e h
 
   pub short-text : lengthFault s .number ≡ 0 → length s ≤ maxText
   unfolding lengthFault
@@ -59,25 +58,7 @@ module _ (s : List ℕ) where
       next-clear (caseFault (caseIn s)) _ (next-clear (linesFault caseOrder 0 1 (linesOf s)) _ lines .1) .0
 
 -- ---- the rooms
--- nothing follows a test of room
-room-last : (need room : ℕ) → roomFault need room ≡ orNext (roomFault need room) noFault
-unfolding roomFault orNext
-room-last need room = go (leb need room)
-  where
-    go : (b : Bool) → unless b 13 0 ≡ pick (eqb (unless b 13 0 .number) 0) noFault (unless b 13 0)
-    go true = refl
-    go false = refl
-
 module _ (t r : ℕ) where
-  pub rooms-first : (f : Fault) → f ≡ roomFault (maxTasks * taskWidth) t → (f .number ≡ 0 → ⊥) → f ≡ roomsFault t r
-  unfolding roomsFault
-  rooms-first f e h = e ∙ sym (next-some (roomFault (maxTasks * taskWidth) t) _ (still f _ e h))
-
-  pub rooms-second : (f : Fault) → roomFault (maxTasks * taskWidth) t .number ≡ 0 → f ≡ roomFault (maxReleases * releaseWidth) r
-      → f ≡ roomsFault t r
-  unfolding roomsFault
-  rooms-second f l e = e ∙ room-last (maxReleases * releaseWidth) r ∙ sym (next-none (roomFault (maxTasks * taskWidth) t) _ l)
-
   pub enough-room : roomsFault t r .number ≡ 0 → (maxTasks * taskWidth ≤ t) × (maxReleases * releaseWidth ≤ r)
   unfolding roomsFault roomFault
   enough-room e =

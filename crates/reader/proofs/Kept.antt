@@ -16,7 +16,7 @@ use Rattle.rules.specs.declared.Fault.{Fault}
 use Rattle.rules.specs.declared.Taken.{Taken}
 use Rattle.lines.specs.declared.Head.{Head}
 use Rattle.lines.specs.declared.Gathered.{Gathered}
-use Rattle.lines.specs.Held.{tableRoom, traceRoom, keptCase, Whole}
+use Rattle.lines.specs.Held.{tableRoom, traceRoom, Whole}
 use Rattle.lines.specs.Gathers.{Gathers}
 use Rattle.legal.specs.Legal.{legal}
 use Rattle.reader.specs.Reads.{roomsFault, ReadsCase, PutsCase}

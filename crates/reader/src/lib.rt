@@ -32,21 +32,16 @@ const RELEASES_ROOM: usize = MAX_RELEASES * RELEASE_WIDTH;
 fn rooms_fault(tasks: usize, releases: usize) -> Fault
     ensures { λ r. ⌜ r ≡ roomsFault tasks releases ⌝ }
 {
-    let short = checks::room_fault(TASKS_ROOM, tasks);
-    if short.number != 0 {
-        return short;
-    }
-    checks::room_fault(RELEASES_ROOM, releases)
+    let no_task_room = faults::room_fault(TASKS_ROOM, tasks);
+    let no_release_room = faults::room_fault(RELEASES_ROOM, releases);
+    faults::first_of_two(no_task_room, no_release_room)
 }
 
 // What is at fault with the length of a text.
 fn length_fault(length: usize) -> Fault
     ensures { λ r. ⌜ r ≡ unless (leb length maxText) 1 0 ⌝ }
 {
-    if MAX_TEXT < length {
-        return checks::fault(1, 0);
-    }
-    checks::fault(0, 0)
+    faults::refuse_unless(length <= MAX_TEXT, 1, 0)
 }
 
 // Reads the case of a text into two rooms: what is at fault with the text, or the case, whose numbers stand at the front of the rooms.

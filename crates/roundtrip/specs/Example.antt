@@ -8,7 +8,7 @@ use Rattle.rules.specs.Case.{caseOf}
 use Rattle.rules.specs.Refusals.{noFault, orNext, firstOf, procsFault, policyFault, tableFault, taskFault, endFault, traceFault, inOrder, lastBefore, releaseFault, caseFault}
 use Rattle.rules.specs.Text.{same, upTo, past, has, lineOf, afterLine, fieldOf, afterField, allDigits, noLeadingZero, isNumber, worth, numberIn, digitsIn, digitsOf, procsWord, policyWord, taskWord, endWord, releaseWord}
 use Rattle.rules.specs.Policies.{edf, edfWord, policyName}
-use Rattle.rules.specs.Reader.{oneNumber, twoNumbers, threeNumbers, wordKind, fieldsSay, lineSays, linesIn, linesOf, mayFollow, mayStop, caseOrder, linesFault, withLine, withLines, caseWithDefault, caseIn, lengthFault, textFault}
+use Rattle.rules.specs.Reader.{oneNumber, twoNumbers, threeNumbers, wordKind, fieldsSay, lineSays, linesIn, linesOf, mayFollow, mayStop, linesFault, withLine, withLines, caseWithDefault, caseIn, lengthFault, textFault}
 use Rattle.rules.specs.Writer.{joinedText, moreFields, lineText, procsText, policyText, taskText, endText, releaseText, caseText}
 use Rattle.roundtrip.specs.RoundTrip.{policyGiven, withPolicy}
 

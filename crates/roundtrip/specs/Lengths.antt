@@ -4,11 +4,11 @@
 use mathlib.Core.Path.{_≡_}
 use mathlib.Core.List.{List, [], _∷_, _++_}
 use Prim.Native.Nat.{ℕ, zero, suc, _+_, _*_, _≤_, _<_}
-use native.Mathlib.Nat.{suc-mul, mul-le-mul-right}
+use native.Mathlib.Nat.{suc-mul}
 use native.Mathlib.Omega.{arith}
 use lib.ListN.{length, length-append}
 use Rattle.rules.specs.Words.{tab}
-use Rattle.rules.specs.Limits.{maxTasks, maxReleases, maxText}
+use Rattle.rules.specs.Limits.{maxTasks, maxReleases}
 use Rattle.rules.specs.Case.{Case, taskCount, period, execution, deadline, releaseCount, timeOf, nameOf}
 use Rattle.rules.specs.Text.{tabByte, digitsOf, procsWord, policyWord, taskWord, endWord, releaseWord}
 use Rattle.rules.specs.Policies.{policyName}

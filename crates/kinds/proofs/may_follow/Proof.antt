@@ -11,7 +11,7 @@ returns-2 : tie.Need-returns-2
 returns-2 c = follows-policy _ _ (c .match .keys2)
 
 returns-3 : tie.Need-returns-3
-returns-3 c = follows-task _ _ (c .before .before .match .keys3) (c .before .if1 .left) (c .if2 .taken)
+returns-3 c = follows-task _ _ (c .before .before .match .keys3) (omega (arith, c .before .if1 .left)) (omega (arith, c .if2 .taken))
 
 returns-4 : tie.Need-returns-4
 returns-4 c = not-task _ _ (c .before .match .keys3) (λ l. omega arith)
@@ -23,7 +23,7 @@ returns-6 : tie.Need-returns-6
 returns-6 c = follows-end _ _ (c .match .keys4)
 
 returns-7 : tie.Need-returns-7
-returns-7 c = follows-release _ _ (c .before .before .match .keys5) (c .before .if3 .left) (c .if4 .taken)
+returns-7 c = follows-release _ _ (c .before .before .match .keys5) (omega (arith, c .before .if3 .left)) (omega (arith, c .if4 .taken))
 
 returns-8 : tie.Need-returns-8
 returns-8 c = not-release _ _ (c .before .match .keys5) (λ l. omega arith)

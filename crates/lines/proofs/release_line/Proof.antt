@@ -1,6 +1,5 @@
 -- `lines::release_line` meets its contract.
 use mathlib.Core.Path.{ap, _∙_}
-use Rattle.rules.specs.Limits.{releaseWidth}
 use Rattle.rules.specs.Reader.{kindOf, caseOrder}
 use Rattle.rules.specs.declared.Line.{Line}
 use Rattle.lines.specs.Held.{lineFault}

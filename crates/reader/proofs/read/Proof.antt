@@ -1,5 +1,5 @@
 -- `reader::read` meets its contract: the rooms are at fault, the text is, or nothing is.
-use mathlib.Core.Path.{_≡_, refl, sym, ap, _∙_}
+use mathlib.Core.Path.{_≡_, sym, ap, _∙_}
 use lib.ListN.{length}
 use Rattle.rules.specs.declared.Fault.{Fault}
 use Rattle.reader.specs.Reads.{roomsFault}

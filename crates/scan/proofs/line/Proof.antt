@@ -3,7 +3,6 @@ use native.Mathlib.Omega.{arith}
 use lib.ListN.{length-drop, drop}
 use Rattle.rules.specs.Text.{newlineByte, lineOf}
 use Rattle.scan.proofs.Parts.{part-upTo, upTo-le}
-use borrow.Author.Needs.{needs}
 use Rattle.scan.proofs.line.Statement.{statement}
 use Rattle.scan.proofs.line.Tie as tie
 
