@@ -1,4 +1,0 @@
-pub mod Taken
-pub mod Said
-pub mod Wishes
-pub mod Faults

@@ -1,0 +1,58 @@
+-- `wishes::two_ask` meets its contract.
+use mathlib.Core.Path.{sym, _∙_}
+use Rattle.wishes.specs.Asks.{twoAsk}
+use borrow.Author.Needs.{needs}
+use Rattle.wishes.proofs.two_ask.Statement.{statement}
+use Rattle.wishes.proofs.two_ask.Tie as tie
+
+is-quiet-requires : tie.Need-is-quiet-requires
+is-quiet-requires c κs = search needs
+
+alone-requires : tie.Need-alone-requires
+alone-requires c κs = search needs
+
+asking-requires : tie.Need-asking-requires
+asking-requires c κs = search needs
+
+returns : tie.Need-returns
+unfolding twoAsk
+returns c = c .asking .ensures ∙ rw (c .before .alone .ensures, sym (c .before .before .before .is-quiet .ensures) ∙ c .before .before .if1 .taken)
+
+is-quiet-requires-2 : tie.Need-is-quiet-requires-2
+is-quiet-requires-2 c κs = search needs
+
+alone-requires-2 : tie.Need-alone-requires-2
+alone-requires-2 c κs = search needs
+
+asking-requires-2 : tie.Need-asking-requires-2
+asking-requires-2 c κs = search needs
+
+returns-2 : tie.Need-returns-2
+unfolding twoAsk
+returns-2 c = c .asking2 .ensures ∙ rw (c .before .alone2 .ensures, sym (c .before .before .before .before .before .is-quiet .ensures) ∙ c .before .before .before .before .if1 .left, sym (c .before .before .before .is-quiet2 .ensures) ∙ c .before .before .if2 .taken)
+
+named-slot-requires : tie.Need-named-slot-requires
+named-slot-requires c κs = search needs
+
+asking-requires-3 : tie.Need-asking-requires-3
+asking-requires-3 c κs = search needs
+
+returns-3 : tie.Need-returns-3
+unfolding twoAsk
+returns-3 c = c .asking3 .ensures ∙ rw (c .before .named-slot .ensures, sym (c .before .before .before .before .before .is-quiet .ensures) ∙ c .before .before .before .before .if1 .left, sym (c .before .before .before .is-quiet2 .ensures) ∙ c .before .before .if2 .left)
+
+pub two-ask-spec : {M : Type 1} → statement M
+two-ask-spec =
+    tie.close
+    (tie.spec
+    is-quiet-requires
+    alone-requires
+    asking-requires
+    returns
+    is-quiet-requires-2
+    alone-requires-2
+    asking-requires-2
+    returns-2
+    named-slot-requires
+    asking-requires-3
+    returns-3)
