@@ -1059,6 +1059,11 @@ class DemotedKeepsItsPlace(replay.Run):
         return job.deadline, job.task
 
 
+class DemotedFirst(replay.Run):
+    def place_in_queue(self, job):
+        return not job.demoted, job.deadline, job.task
+
+
 class OwnAvailabilityLeftOut(replay.Run):
     def free_count(self, task):
         S = sum(replay.availability(other, task.D) for other in self.tasks)
@@ -1161,6 +1166,17 @@ class ErrorsThatLookRight(Checks):
                          right)
         self.told(CountedBeforeReleasesThroughout,
                   (1, EDF, [1, 1, 1], 1, [0, 1]), [1, 1, 0], [2, 0, 0])
+
+    def test_a_demoted_job_put_first(self):
+        """m = 1, tasks (2,1,1) and (2,1,2) released at 1, end 10.
+
+        The free counts are 0 and 1, so under EDF-CF task 2 is demoted at 1 and
+        task 1 runs first: both meet, as under EDF.  The error runs task 2 first
+        and task 1 misses, which it does not under EDF.
+        """
+        table, trace = [2, 1, 1, 2, 1, 2], [1, 1, 1, 2]
+        self.told(DemotedFirst, (1, EDF_CF, table, 10, trace), [1, 2, 0, 1, 3, 2], [2, 0, 0, 1, 2, 2])
+        self.assertEqual(replay.replay(1, EDF, table, 10, trace, [0] * 6).rooms[0], [1, 2, 0, 1, 3, 0])
 
     def test_a_demoted_job_that_keeps_its_early_place(self):
         """m = 2, EDF-CF, (2,1,2) (2,1,1) (2,2,2), all at 0, end 2.

@@ -13,7 +13,8 @@ use borrow.Author.Tests.{lt-leb, eqb-true}
 use Rattle.rules.specs.declared.Run.{Run}
 use Rattle.rules.specs.Words.{tab, firstIn}
 use Rattle.rules.specs.Case.{Case, taskCount, deadline, releaseCount, timeOf, nameOf}
-use Rattle.rules.specs.Slot.{TaskSet, Setup, jobAt, isMissed, isCf, isDemotedNow, judged, joinedTask, joined, readied, demoted, lowered, opened, after, ran, finished, missed, demotedNow, jobsNow}
+use Rattle.rules.specs.Policies.{demoting}
+use Rattle.rules.specs.Slot.{TaskSet, Setup, jobAt, isMissed, isDemotedNow, judged, joinedTask, joined, readied, demoted, lowered, opened, after, ran, finished, missed, demotedNow, jobsNow}
 use Rattle.rules.specs.Replay.{setupIn, releasedIn, releasedAt, fresh, stateFrom, stateAt, ranAt, finishedAt, missedAt, demotedAt, slotsBy, finishBy, demotionBy, verdictBy, recordBy, numbers}
 use Rattle.lists.specs.Lists.{mapFrom-cong, tab-long, tab-at, tab-cong}
 use Rattle.bridge.specs.Steps.{Full, judged-full}
@@ -25,8 +26,9 @@ use Rattle.bridge.specs.Events.{turn-event}
 use Rattle.bridge.specs.Notes.{numbers-long, noteTo, Handed, noted-all}
 use Rattle.counts.specs.Needs.{Counts}
 use Rattle.slot.specs.Needed.{Needed}
-use Rattle.slot.specs.Stepped.{Stepped}
-use Rattle.engine.specs.Walks.{Orderly, places, releases, Walking, Rests, Turned, LastRan, roomAt, Roomy, openRecord}
+use Rattle.slot.specs.Stepped.{Stepped, members}
+use Rattle.notes.specs.Noted.{Roomy, openRecord}
+use Rattle.engine.specs.Walks.{Orderly, places, releases, Walking, Rests, Turned, LastRan, roomAt}
 use Rattle.engine.proofs.Quiet.{none-left, still-walking, still-ran, still-records}
 
 pub orderly : (c : Case) → Legal c → Orderly (c .trace)
@@ -77,16 +79,18 @@ module _ (g : Setup) (now : ℕ) (s u : TaskSet) (r : Run) (f : Full r) (h : (i 
 
   demoted-same : (i : ℕ) → demotedNow g now s r i ≡ demotedNow g now u r i
   unfolding demotedNow
-  demoted-same i = ap (λ (x : Run). isCf g && isDemotedNow (jobAt x i)) readied-same
+  demoted-same i = ap (λ (x : Run). demoting (g .policy) && isDemotedNow (jobAt x i)) readied-same
 
-  stepped-same : (run : Run) (n : ℕ) (ds rs fs ls : List Bool) → Stepped g now s r run n ds rs fs ls → Stepped g now u r run n ds rs fs ls
-  stepped-same run n ds rs fs ls q = record {
+  stepped-same : (run : Run) (n : ℕ) (ms ds rs fs ls : List Bool) → Stepped g now s r run n ms ds rs fs ls → Stepped g now u r run n ms ds rs fs ls
+  unfolding missed
+  stepped-same run n ms ds rs fs ls q = record {
     run = q .run ∙ after-same;
     jobs = q .jobs ∙ ap (λ (x : Run). jobsNow (demoted g x)) readied-same;
+    missed = q .missed;
     demoted = q .demoted ∙ tab-cong _ _ 0 32 (λ i x y. demoted-same i);
     ran = q .ran ∙ tab-cong _ _ 0 32 (λ i x y. ran-same i);
     finished = q .finished ∙ tab-cong _ _ 0 32 (λ i x y. finished-same i);
-    late = q .late;
+    missed-next = q .missed-next;
   }
 
 module _ (c : Case) (g : Legal c) (clock : ℕ) (more : clock < c .end) (rel : List Bool)
@@ -123,11 +127,11 @@ module _ (c : Case) (g : Legal c) (clock : ℕ) (more : clock < c .end) (rel : L
     counted = λ i e. q i (in-table i e);
   }
 
-  module _ (run : Run) (e : run ≡ stateAt c clock) (run′ : Run) (jobs : ℕ) (ds rs fs ls : List Bool)
-      (q : Stepped (setupIn c) clock (λ i. getD rel i false) run run′ jobs ds rs fs ls) where
+  module _ (run : Run) (e : run ≡ stateAt c clock) (run′ : Run) (jobs : ℕ) (ms ds rs fs ls : List Bool)
+      (q : Stepped (setupIn c) clock (members rel) run run′ jobs ms ds rs fs ls) where
     -- it is the slot of the case
-    same-step : Stepped (setupIn c) clock (releasedAt c clock) (stateAt c clock) run′ jobs ds rs fs ls
-    same-step = stepped-same (setupIn c) clock (λ i. getD rel i false) (releasedAt c clock) (stateAt c clock) (state-full c clock) rel-at run′ jobs ds rs fs ls (rw e at q)
+    same-step : Stepped (setupIn c) clock (releasedAt c clock) (stateAt c clock) run′ jobs ms ds rs fs ls
+    same-step = stepped-same (setupIn c) clock (members rel) (releasedAt c clock) (stateAt c clock) (state-full c clock) rel-at run′ jobs ms ds rs fs ls (rw e at q)
 
     next-run : run′ ≡ stateAt c (suc clock)
     next-run = same-step .run ∙ sym (state-next c clock)
@@ -147,7 +151,7 @@ module _ (c : Case) (g : Legal c) (clock : ℕ) (more : clock < c .end) (rel : L
       at-place = λ i h. rw p (tab-at (λ i. lastPlace (c .trace) next (suc i)) 32 i 0 h);
       at-fin = λ i h. rw (same-step .finished) (tab-at _ 32 i false h);
       at-dem = λ i h. rw (same-step .demoted) (tab-at _ 32 i false h);
-      at-late = λ i h. rw (same-step .late) (tab-at _ 32 i false h) ∙ ap (λ (r : Run). isMissed (suc clock) (jobAt r i)) next-run;
+      at-late = λ i h. rw (same-step .missed-next) (tab-at _ 32 i false h) ∙ ap (λ (r : Run). isMissed (suc clock) (jobAt r i)) next-run;
     }
 
 -- ---- the records

@@ -1,5 +1,4 @@
 pub mod Trace
-pub mod Room
 pub mod Powers
 pub mod Quiet
 pub mod Going

@@ -13,7 +13,8 @@ use Rattle.rules.specs.declared.Task.{Task}
 use Rattle.rules.specs.declared.Run.{Run}
 use Rattle.rules.specs.Words.{pick, bit, sum, countIn, tab}
 use Rattle.rules.specs.Case.{Case, releaseCount, timeOf}
-use Rattle.rules.specs.Slot.{Setup, TaskSet, noTask, runOf, withJob, jobAt, isPresent, present, eachTask, isCf, judged, joined, demotedTask, demoted, readied, jobsNow, contentionFree, loweredTask, lowered, opened, chosen, workedTask, worked, after}
+use Rattle.rules.specs.Policies.{demoting}
+use Rattle.rules.specs.Slot.{Setup, TaskSet, noTask, runOf, withJob, jobAt, isPresent, present, eachTask, judged, joined, demotedTask, demoted, readied, jobsNow, contentionFree, loweredTask, lowered, opened, chosen, workedTask, worked, after}
 use Rattle.rules.specs.Replay.{setupIn, releasedAt, stateAt, ranAt, recordBy}
 use Rattle.lists.specs.Lists.{tab-cong}
 use Rattle.bridge.specs.Steps.{Full, demotedJob, readied-at, demoted-at, readied-full, lowers}
@@ -57,7 +58,7 @@ module _ (g : Setup) (now : ℕ) (s : TaskSet) (r : Run) (full : Full r) (none :
 
   still-demoted : demoted g r ≡ r
   unfolding demoted
-  still-demoted = go (isCf g)
+  still-demoted = go (demoting (g .policy))
     where
       go : (b : Bool) → pick b (eachTask (λ i t. demotedTask t) r) r ≡ r
       go true = still _ r full (λ i l. rw (idle i l))
@@ -65,7 +66,7 @@ module _ (g : Setup) (now : ℕ) (s : TaskSet) (r : Run) (full : Full r) (none :
 
   still-lowered : lowered g r ≡ r
   unfolding lowered
-  still-lowered = go (isCf g && contentionFree g r)
+  still-lowered = go (demoting (g .policy) && contentionFree g r)
     where
       go : (b : Bool) → pick b (eachTask (λ i t. loweredTask t) r) r ≡ r
       go true = still _ r full (λ i l. rw (idle i l) (same-task _ (idle i l)))
@@ -96,9 +97,9 @@ module _ (c : Case) (t : ℕ) (n : jobsNow (demoted (setupIn c) (readied (setupI
       let full = state-full c t in
       let R = readied (setupIn c) t (releasedAt c t) (stateAt c t) in
       let a : isPresent (jobAt (demoted (setupIn c) R) i) ≡ false = none-counted (present (demoted (setupIn c) R)) 32 i n l in
-      let d = demoted-at i l (setupIn c) R (readied-full _ _ _ _ full) ∙ ap (demotedJob (isCf (setupIn c))) (readied-at i l (setupIn c) t (releasedAt c t) (stateAt c t) full) in
-      let x : isPresent (readyAt c t i) ≡ false = sym (kept-demoted (isCf (setupIn c)) (readyAt c t i) .there) ∙ sym (ap isPresent d) ∙ a in
-      let o : isPresent (openAt c t i) ≡ false = kept-opened (isCf (setupIn c)) (lowers (setupIn c) t (releasedAt c t) (stateAt c t)) (readyAt c t i) .there ∙ x in
+      let d = demoted-at i l (setupIn c) R (readied-full _ _ _ _ full) ∙ ap (demotedJob (demoting (c .policy))) (readied-at i l (setupIn c) t (releasedAt c t) (stateAt c t) full) in
+      let x : isPresent (readyAt c t i) ≡ false = sym (kept-demoted (demoting (c .policy)) (readyAt c t i) .there) ∙ sym (ap isPresent d) ∙ a in
+      let o : isPresent (openAt c t i) ≡ false = kept-opened (demoting (c .policy)) (lowers (setupIn c) t (releasedAt c t) (stateAt c t)) (readyAt c t i) .there ∙ x in
       next-at c i l t ∙ rw (ran-present c i l t o) (idle-now (openAt c t i) o)
 
 module _ (c : Case) (g : Legal c) (t : ℕ) (run : Run) (place : List ℕ) (next jobs : ℕ) (v : Walking c t run place next jobs) (r : Rests (c .trace) next jobs t) where
@@ -142,7 +143,7 @@ module _ (c : Case) (g : Legal c) (t : ℕ) (run : Run) (place : List ℕ) (next
   -- no job is there in the slot
   absent : (i : ℕ) → i < 32 → isPresent (openAt c t i) ≡ false
   absent i l =
-      let k = kept-opened (isCf (setupIn c)) (lowers (setupIn c) t (releasedAt c t) (stateAt c t)) (readyAt c t i) in
+      let k = kept-opened (demoting (c .policy)) (lowers (setupIn c) t (releasedAt c t) (stateAt c t)) (readyAt c t i) in
       let n : isPresent (readyAt c t i) ≡ false = rw (none-now i l, v .idle (r .idle) i l) in
       k .there ∙ n
 

@@ -1,19 +1,18 @@
 -- What the engine's own functions ask and say, beside the definitions of "What happens at time t": how a walk over the slots of a case
 -- stands before a time, what one slot more makes of it, and how the records stand in the lent room meanwhile.
 use mathlib.Core.Path.{_≡_}
-use mathlib.Core.Bool.{Bool, true, false}
+use mathlib.Core.Bool.{Bool}
 use mathlib.Core.List.{List, _++_}
-use Prim.Native.Nat.{ℕ, suc, _+_, _*_, _≤_, _<_}
-use lib.ListN.{getD, drop}
+use Prim.Native.Nat.{ℕ, suc, _*_, _≤_, _<_}
+use lib.ListN.{drop}
 use Rattle.rules.specs.Words.{tab}
-use Rattle.rules.specs.Limits.{maxTasks}
+use Rattle.rules.specs.Limits.{maxTasks, recordWidth}
 use Rattle.rules.specs.Case.{Case, releaseCount, timeOf, nameOf}
 use Rattle.rules.specs.Slot.{jobAt}
-use Rattle.rules.specs.Replay.{releasedIn, stateAt, ranAt, Record, recordOf, recordBy, numbers}
+use Rattle.rules.specs.Replay.{releasedIn, stateAt, ranAt, recordBy, numbers}
 use Rattle.rules.specs.declared.Job.the-variants.{Idle}
 use Rattle.rules.specs.declared.Run.{Run}
 use Rattle.bridge.specs.Turn.{lastPlace, Reached}
-use Rattle.bridge.specs.Notes.{eventAt}
 
 -- a trace in order whose names are task numbers
 pub record Orderly (rs : List ℕ) : Type 0 where
@@ -52,16 +51,4 @@ LastRan c until rs = (t : ℕ) → until ≡ suc t → rs ≡ tab (ranAt c t) 0 
 -- ---- the records in the lent room
 -- the room with the records as they stand at t; what is past them stays
 abbrev pub roomAt : Case → ℕ → List ℕ → List ℕ
-roomAt c t xs = numbers (tab (recordBy c t) 0 (releaseCount (c .trace))) ++ drop (releaseCount (c .trace) * 3) xs
-
--- each task of which something is written has a place in the room
-abbrev pub Roomy : List ℕ → List Bool → List Bool → List Bool → ℕ → Type 0
-Roomy place fin dem late room = (i : ℕ) → i < maxTasks → eventAt fin dem late i ≡ true → getD place i 0 * 3 + 2 < room
-
--- nothing happens to the jobs of the first n tasks
-abbrev pub Uneventful : List Bool → List Bool → List Bool → ℕ → Type 0
-Uneventful fin dem late n = (i : ℕ) → i < n → eventAt fin dem late i ≡ false
-
--- a record before its job's first slot
-abbrev pub openRecord : Record
-openRecord = recordOf 3 0 0
+roomAt c t xs = numbers (tab (recordBy c t) 0 (releaseCount (c .trace))) ++ drop (releaseCount (c .trace) * recordWidth) xs

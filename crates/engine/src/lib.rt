@@ -1,21 +1,17 @@
-// The replay: slot after slot, with the records written as they stand; and the running set of one slot.
+// The replay: slot after slot, with the records written as they stand (crate notes); and the running set of one slot.
 ghost use mathlib.Core.Path.{_≡_};
 ghost use mathlib.Core.Bool.{true, false};
-ghost use mathlib.Core.List.{_++_};
-ghost use Prim.Native.Nat.{suc, _+_, _*_, _≤_, _<_};
-ghost use lib.Dec.{eqb};
-ghost use lib.ListN.{length, getD, drop};
-ghost use Rattle.rules.specs.Words.{pick, tab, countIn};
+ghost use Prim.Native.Nat.{suc, _*_, _≤_, _<_};
+ghost use lib.ListN.{length, getD};
+ghost use Rattle.rules.specs.Limits.{recordWidth};
 ghost use Rattle.rules.specs.Case.{caseOf, releaseCount};
 ghost use Rattle.rules.specs.Refusals.{Accepted};
 ghost use Rattle.rules.specs.Calls.{roomAfter, ReplayPromise, RunningPromise};
 ghost use Rattle.rules.specs.Slot.{setNumber};
-ghost use Rattle.rules.specs.Replay.{fresh, numbers};
+ghost use Rattle.rules.specs.Replay.{fresh};
 ghost use Rattle.counts.specs.Needs.{Counts};
 ghost use Rattle.bridge.specs.Turn.{Reached};
-ghost use Rattle.bridge.specs.Events.{event, entry};
-ghost use Rattle.bridge.specs.Notes.{put3, noteTo};
-ghost use Rattle.engine.specs.Walks.{Orderly, places, releases, Rests, Roomy, Uneventful, roomAt, Walking, Turned, LastRan, openRecord};
+ghost use Rattle.engine.specs.Walks.{Orderly, places, releases, Rests, roomAt, Walking, Turned, LastRan};
 use rules::Replayed;
 use rules::Run;
 use rules::Running;
@@ -30,7 +26,9 @@ fn take_releases(
     place: &mut [usize; 32],
     released: &mut [bool; 32],
 ) -> usize
-    requires { ⌜ Orderly (now trace) × Reached (now trace) from clock × (now place ≡ places (now trace) from) ⌝ }
+    requires { ⌜ Orderly (now trace) ⌝ }
+    requires { ⌜ Reached (now trace) from clock ⌝ }
+    requires { ⌜ now place ≡ places (now trace) from ⌝ }
     ensures { λ next. ⌜ Reached (now (trace .entry)) next (suc clock) × (now (place .exit) ≡ places (now (trace .entry)) next) × (now (released .exit) ≡ releases (now (trace .entry)) (releaseCount (now (trace .entry))) clock) ⌝ }
 {
     *released = [false; 32];
@@ -63,125 +61,6 @@ fn rests(trace: &[u32], next: usize, jobs: usize, clock: u32) -> bool
     false
 }
 
-// ---- the records
-
-fn is_event(finished: bool, demoted: bool, late: bool) -> bool
-    ensures { λ r. ⌜ r ≡ event finished demoted late ⌝ }
-{
-    if finished {
-        return true;
-    }
-    if demoted {
-        return true;
-    }
-    late
-}
-
-fn verdict_after(finished: bool, late: bool) -> u32
-    ensures { λ r. ⌜ r ≡ pick finished 1 (pick late 2 3) ⌝ }
-{
-    if finished {
-        return 1;
-    }
-    if late {
-        return 2;
-    }
-    3
-}
-
-// The time after the slot where the test holds, else what was there.
-fn time_after(is: bool, clock: u32, old: u32) -> u32
-    requires { ⌜ clock < 100000 ⌝ }
-    ensures { λ r. ⌜ r ≡ pick is (suc clock) old ⌝ }
-{
-    if is { clock + 1 } else { old }
-}
-
-// Writes the record at place p after a slot in which its job finished, was demoted or came to its deadline.
-fn note_task(out: &mut [u32], p: usize, finished: bool, demoted: bool, late: bool, clock: u32)
-    requires { ⌜ (p * 3 + 2 < length (now out)) × (clock < 100000) ⌝ }
-    ensures { λ r. ⌜ now (out .exit) ≡ put3 (now (out .entry)) p (entry clock finished demoted late (getD (now (out .entry)) (p * 3 + 2) 0)) ⌝ }
-{
-    let v = verdict_after(finished, late);
-    let f = time_after(finished, clock, 0);
-    let old = out[p * 3 + 2];
-    let d = time_after(demoted, clock, old);
-    out[p * 3] = v;
-    out[p * 3 + 1] = f;
-    out[p * 3 + 2] = d;
-}
-
-// Writes what happened to each job in a slot. A late job is still there at its deadline: nothing more comes of it, and it is missed.
-fn note_all(
-    out: &mut [u32],
-    place: &[usize; 32],
-    finished: &[bool; 32],
-    demoted: &[bool; 32],
-    late: &[bool; 32],
-    clock: u32,
-)
-    requires { ⌜ Roomy (now place) (now finished) (now demoted) (now late) (length (now out)) × (clock < 100000) ⌝ }
-    ensures { λ r. ⌜ now (out .exit) ≡ noteTo clock (now (place .entry)) (now (finished .entry)) (now (demoted .entry)) (now (late .entry)) 32 (now (out .entry)) ⌝ }
-{
-    let mut i: usize = 0;
-    while i < 32 {
-        let fin = finished[i];
-        let dem = demoted[i];
-        let lat = late[i];
-        if is_event(fin, dem, lat) {
-            let p = place[i];
-            note_task(out, p, fin, dem, lat, clock);
-        }
-        i += 1;
-    }
-}
-
-// Whether anything happened to a job in a slot. All 32 are looked at whatever comes first: such a loop is made into a few steps.
-fn any_event(finished: &[bool; 32], demoted: &[bool; 32], late: &[bool; 32]) -> bool
-    ensures { λ r. ⌜ (r ≡ false → Uneventful (now (finished .entry)) (now (demoted .entry)) (now (late .entry)) 32) ⌝ }
-{
-    let mut any = false;
-    let mut i: usize = 0;
-    while i < 32 {
-        if is_event(finished[i], demoted[i], late[i]) {
-            any = true;
-        }
-        i += 1;
-    }
-    any
-}
-
-// Writes what a slot changes in the records; in most slots that is nothing.
-fn note_slot(
-    out: &mut [u32],
-    place: &[usize; 32],
-    finished: &[bool; 32],
-    demoted: &[bool; 32],
-    late: &[bool; 32],
-    clock: u32,
-)
-    requires { ⌜ Roomy (now place) (now finished) (now demoted) (now late) (length (now out)) × (clock < 100000) ⌝ }
-    ensures { λ r. ⌜ now (out .exit) ≡ noteTo clock (now (place .entry)) (now (finished .entry)) (now (demoted .entry)) (now (late .entry)) 32 (now (out .entry)) ⌝ }
-{
-    if any_event(finished, demoted, late) {
-        note_all(out, place, finished, demoted, late, clock);
-    }
-}
-
-// Every record open, before the first slot.
-fn open_records(out: &mut [u32], n: usize)
-    requires { ⌜ n * 3 ≤ length (now out) ⌝ }
-    ensures { λ r. ⌜ now (out .exit) ≡ numbers (tab (λ j. openRecord) 0 n) ++ drop (n * 3) (now (out .entry)) ⌝ }
-{
-    let mut j: usize = 0;
-    while j < n {
-        out[j * 3] = 3;
-        out[j * 3 + 1] = 0;
-        out[j * 3 + 2] = 0;
-        j += 1;
-    }
-}
-
 // ---- the slots of a case
 
 // The releases of a time and its slot: the run that it leaves, the set that ran, and how the trace then stands. The records are
@@ -202,13 +81,18 @@ fn turn(
     noting: bool,
     out: &mut [u32],
 ) -> Run
-    requires { ⌜ Accepted (caseOf procs policy (now table) end (now trace)) × Counts procs (now table) (now counts) × Walking (caseOf procs policy (now table) end (now trace)) clock run (now place) (now next) (now jobs) × (clock < end) × (noting ≡ true → now out ≡ roomAt (caseOf procs policy (now table) end (now trace)) clock (now out)) ⌝ }
+    requires { ⌜ Accepted (caseOf procs policy (now table) end (now trace)) ⌝ }
+    requires { ⌜ Counts procs (now table) (now counts) ⌝ }
+    requires { ⌜ Walking (caseOf procs policy (now table) end (now trace)) clock run (now place) (now next) (now jobs) ⌝ }
+    requires { ⌜ clock < end ⌝ }
+    requires { ⌜ (noting ≡ true → now out ≡ roomAt (caseOf procs policy (now table) end (now trace)) clock (now out)) ⌝ }
     ensures { λ after. ⌜ Turned (caseOf procs policy (now (table .entry)) end (now (trace .entry))) clock after (now (place .exit)) (now (next .exit)) (now (jobs .exit)) (now (ran .exit)) × (noting ≡ true → now (out .exit) ≡ roomAt (caseOf procs policy (now (table .entry)) end (now (trace .entry))) (suc clock) (now (out .entry))) ⌝ }
 {
     let mut released = [false; 32];
     let mut demoted = [false; 32];
     let mut finished = [false; 32];
-    let mut late = [false; 32];
+    let mut missed = [false; 32];
+    let mut missed_next = [false; 32];
     let from = *next;
     *next = take_releases(trace, from, clock, place, &mut released);
     let after = slot::step(
@@ -220,13 +104,14 @@ fn turn(
         &released,
         clock,
         jobs,
+        &mut missed,
         &mut demoted,
         ran,
         &mut finished,
-        &mut late,
+        &mut missed_next,
     );
     if noting {
-        note_slot(out, place, &finished, &demoted, &late, clock);
+        notes::note_slot(out, place, &finished, &demoted, &missed_next, clock);
     }
     after
 }
@@ -245,7 +130,11 @@ fn walk(
     noting: bool,
     out: &mut [u32],
 ) -> [bool; 32]
-    requires { ⌜ Accepted (caseOf procs policy (now table) end (now trace)) × Counts procs (now table) counts × (first ≡ fresh) × (until ≤ end) × (noting ≡ true → now out ≡ roomAt (caseOf procs policy (now table) end (now trace)) 0 (now out)) ⌝ }
+    requires { ⌜ Accepted (caseOf procs policy (now table) end (now trace)) ⌝ }
+    requires { ⌜ Counts procs (now table) counts ⌝ }
+    requires { ⌜ first ≡ fresh ⌝ }
+    requires { ⌜ until ≤ end ⌝ }
+    requires { ⌜ (noting ≡ true → now out ≡ roomAt (caseOf procs policy (now table) end (now trace)) 0 (now out)) ⌝ }
     ensures { λ ran. ⌜ LastRan (caseOf procs policy (now (table .entry)) end (now (trace .entry))) until ran × (noting ≡ true → now (out .exit) ≡ roomAt (caseOf procs policy (now (table .entry)) end (now (trace .entry))) until (now (out .entry))) ⌝ }
 {
     let mut run = first;
@@ -290,11 +179,13 @@ fn replay_run(
     trace: &[u32],
     out: &mut [u32],
 )
-    requires { ⌜ Accepted (caseOf procs policy (now table) end (now trace)) × Counts procs (now table) counts × (releaseCount (now trace) * 3 ≤ length (now out)) ⌝ }
+    requires { ⌜ Accepted (caseOf procs policy (now table) end (now trace)) ⌝ }
+    requires { ⌜ Counts procs (now table) counts ⌝ }
+    requires { ⌜ releaseCount (now trace) * recordWidth ≤ length (now out) ⌝ }
     ensures { λ r. ⌜ now (out .exit) ≡ roomAfter (caseOf procs policy (now (table .entry)) end (now (trace .entry))) (now (out .entry)) ⌝ }
 {
     let n = trace.len() / 2;
-    open_records(out, n);
+    notes::open_records(out, n);
     let first = slot::fresh_run();
     walk(
         first,
@@ -308,22 +199,6 @@ fn replay_run(
         true,
         out,
     );
-}
-
-// How many of the n records are marked v.
-fn marked_in(out: &[u32], n: usize, v: u32) -> u32
-    requires { ⌜ (n * 3 ≤ length (now out)) × (n ≤ 2000) ⌝ }
-    ensures { λ r. ⌜ r ≡ countIn (λ j. eqb (getD (now (out .entry)) (j * 3) 0) v) 0 n ⌝ }
-{
-    let mut s: u32 = 0;
-    let mut j: usize = 0;
-    while j < n {
-        if out[j * 3] == v {
-            s += 1;
-        }
-        j += 1;
-    }
-    s
 }
 
 // The replay of any case: a refusal that leaves the room as it was, or the records and their totals.
@@ -347,9 +222,9 @@ pub fn replay(
     let free = counts::free_counts(procs, table);
     replay_run(procs, policy, table, free, end, trace, out);
     let n = trace.len() / 2;
-    let met = marked_in(out, n, 1);
-    let missed = marked_in(out, n, 2);
-    let open = marked_in(out, n, 3);
+    let met = notes::marked_in(out, n, 1);
+    let missed = notes::marked_in(out, n, 2);
+    let open = notes::marked_in(out, n, 3);
     Replayed::Judged { met, missed, open }
 }
 

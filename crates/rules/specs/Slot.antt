@@ -24,10 +24,6 @@ pub record Setup : Type 0 where
 abbrev pub setupOf : ℕ → ℕ → List ℕ → Setup
 setupOf m p ts = record { procs = m; policy = p; table = ts }
 
--- whether the policy demotes
-abbrev pub isCf : Setup → Bool
-isCf g = demoting (g .policy)
-
 -- the free count that a job of the task at i has at its release
 abbrev pub freeCountIn : Setup → ℕ → ℕ
 freeCountIn g i = freeCountUnder (g .policy) (g .procs) (g .table) i

@@ -1,8 +1,3 @@
-pub mod Order
-pub mod Places
-pub mod Queues
-pub mod Choice
-pub mod Marks
-pub mod Stirs
+pub mod Settling
+pub mod Working
 pub mod Slots
-pub mod Works

@@ -1,25 +1,29 @@
--- Steps 4 to 6 of a run are steps 4 to 6 of each task, and a slot is its passes.
+-- Steps 4 to 6 of a run are steps 4 to 6 of each task; and a slot is its parts.
 use mathlib.Core.Path.{_≡_, refl, ap, ap₂, sym, _∙_}
 use mathlib.Core.Bool.{Bool, true, false, _&&_}
-use mathlib.Core.List.{List}
+use mathlib.Core.List.{List, []}
 use Prim.Native.Nat.{ℕ, _≤_, _<_}
 use native.Mathlib.Omega.{arith}
-use lib.Dec.{eqb, leb, ltb}
+use lib.Dec.{leb, ltb}
 use lib.ListN.{getD}
-use Rattle.rules.specs.Words.{pick, bit}
-use Rattle.rules.specs.Slot.{Setup, TaskSet, isCf, noTask, runOf, withJob, jobAt, isPresent, leftOf, dueOf, kind, present, eachTask, demoted, jobsNow, contentionFree, loweredTask, lowered, opened, jobBefore, comesBefore, rank, chosen, lastUnit, workedTask, worked, after, ran, finished}
+use borrow.Author.Tests.{ltb-true, ltb-false}
+use Rattle.rules.specs.Words.{pick, bit, tab}
+use Rattle.rules.specs.Policies.{demoting}
+use Rattle.rules.specs.Slot.{Setup, setupOf, TaskSet, noTask, runOf, withJob, jobAt, isPresent, leftOf, dueOf, kind, present, eachTask, jobsNow, contentionFree, loweredTask, lowered, opened, jobBefore, comesBefore, rank, chosen, lastUnit, workedTask, worked, after, ran, finished}
 use Rattle.rules.specs.declared.Job.{Job}
 use Rattle.rules.specs.declared.Job.the-variants.{Idle, Normal, Demoted}
 use Rattle.rules.specs.declared.Task.{Task}
 use Rattle.rules.specs.declared.Run.{Run}
-use Rattle.lists.specs.Lists.{mapAt-at, tab-cong}
-use Rattle.bridge.specs.Steps.{Full, demoted-full, readied-full}
+use Rattle.lists.specs.Lists.{mapAt-at, tab-at, tab-cong}
 use Rattle.lists.specs.Sums.{sum-cong}
+use Rattle.lists.specs.Tests.{and-left}
 use Rattle.lists.specs.Fuse.{fuse, keep-all, same-each}
-use Rattle.slot.specs.Queues.{Queued, limitOf}
-use Rattle.slot.specs.Passes.{Stirs, calmedJob, endedJob, endedTask, runsBy, Works}
-use Rattle.slot.specs.Stepped.{Stepped}
-use Rattle.slot.proofs.Choice.{chosen-by}
+use Rattle.bridge.specs.Steps.{Full, demoted-full, lowered-full, readied-full}
+use Rattle.jobs.specs.Tasks.{loweredIf, workedIf, workedOn}
+use Rattle.queue.specs.Queues.{Chosen}
+use Rattle.queue.proofs.Choice.{chosen-all}
+use Rattle.slot.specs.Stepped.{members, Among, settled, Settles, Works, Worked, Stepped}
+use Rattle.slot.proofs.Working.{Left}
 
 -- ---- step 4 keeps what the order and the last unit look at
 record Alike (policy now : ℕ) (j k : Job) : Type 0 where
@@ -28,7 +32,7 @@ record Alike (policy now : ℕ) (j k : Job) : Type 0 where
   due : dueOf k ≡ dueOf j
   left : leftOf k ≡ leftOf j
 
-alike : (policy now : ℕ) (calm : Bool) (j : Job) → Alike policy now j (calmedJob calm j)
+alike : (policy now : ℕ) (lowers : Bool) (j : Job) → Alike policy now j (loweredIf lowers j)
 alike policy now false j = record { there = refl; sort = refl; due = refl; left = refl }
 alike policy now true Idle = record { there = refl; sort = refl; due = refl; left = refl }
 alike policy now true (Normal l f d) = record { there = refl; sort = refl; due = refl; left = refl }
@@ -38,28 +42,28 @@ same-before : (policy now : ℕ) (a b a' b' : Job) (j i : ℕ) → Alike policy 
 unfolding jobBefore
 same-before policy now a b a' b' j i p q = rw (p .there, p .sort, q .sort, p .due, q .due)
 
-abbrev calmedTask : Bool → Task → Task
-calmedTask calm t = withJob t (calmedJob calm (t .job))
+abbrev lowersTask : Bool → Task → Task
+lowersTask lowers t = withJob t (loweredIf lowers (t .job))
 
 -- whether step 4 lowers the free counts
-abbrev pub calms : Setup → Run → Bool
-calms g d = isCf g && contentionFree g d
+abbrev pub lowersIn : Setup → Run → Bool
+lowersIn g d = demoting (g .policy) && contentionFree g d
 
 module _ (g : Setup) (now : ℕ) (d : Run) (h : Full d) where
-  calmed : (b : Bool) → pick b (eachTask (λ i t. loweredTask t) d) d ≡ eachTask (λ i t. calmedTask b t) d
-  calmed true = refl
-  calmed false = sym (ap runOf (keep-all (d .tasks)))
+  lower : (b : Bool) → pick b (eachTask (λ i t. loweredTask t) d) d ≡ eachTask (λ i t. lowersTask b t) d
+  lower true = refl
+  lower false = sym (ap runOf (keep-all (d .tasks)))
 
-  lowers : lowered g d ≡ eachTask (λ i t. calmedTask (calms g d) t) d
+  lowers : lowered g d ≡ eachTask (λ i t. lowersTask (lowersIn g d) t) d
   unfolding lowered
-  lowers = calmed (calms g d)
+  lowers = lower (lowersIn g d)
 
-  lowers-at : (i : ℕ) → i < 32 → jobAt (lowered g d) i ≡ calmedJob (calms g d) (jobAt d i)
+  lowers-at : (i : ℕ) → i < 32 → jobAt (lowered g d) i ≡ loweredIf (lowersIn g d) (jobAt d i)
   lowers-at i l =
-      ap (λ (x : Run). jobAt x i) lowers ∙ ap (λ (t : Task). t .job) (mapAt-at (λ i t. calmedTask (calms g d) t) (d .tasks) i noTask (omega arith))
+      ap (λ (x : Run). jobAt x i) lowers ∙ ap (λ (t : Task). t .job) (mapAt-at (λ i t. lowersTask (lowersIn g d) t) (d .tasks) i noTask (omega arith))
 
   kept : (i : ℕ) → i < 32 → Alike (g .policy) now (jobAt d i) (jobAt (lowered g d) i)
-  kept i l = rw (lowers-at i l) (alike (g .policy) now (calms g d) (jobAt d i))
+  kept i l = rw (lowers-at i l) (alike (g .policy) now (lowersIn g d) (jobAt d i))
 
   -- so the same jobs are chosen
   same-chosen : (i : ℕ) → i < 32 → chosen g now (lowered g d) i ≡ chosen g now d i
@@ -69,60 +73,71 @@ module _ (g : Setup) (now : ℕ) (d : Run) (h : Full d) where
       (sum-cong (λ j. bit (comesBefore g now (lowered g d) j i)) (λ j. bit (comesBefore g now d j i)) 0 32
       (λ j u v. ap bit (same-before (g .policy) now (jobAt d j) (jobAt d i) _ _ j i (kept j (omega arith)) (kept i l))))
 
-  with-pick : (b : Bool) (t : Task) → pick b (workedTask t) t ≡ withJob t (endedJob b (t .job))
+  with-pick : (b : Bool) (t : Task) → pick b (workedTask t) t ≡ withJob t (workedIf b (t .job))
   with-pick true t = refl
   with-pick false t = refl
 
-  ends : (runs : ℕ → Task → Bool) → ((i : ℕ) → i < 32 → chosen g now (lowered g d) i ≡ runs i (getD (d .tasks) i noTask))
-      → worked (chosen g now (lowered g d)) (lowered g d) ≡ eachTask (λ i t. endedTask (calms g d) (runs i t) t) d
+  works : (runs : TaskSet) → worked runs (lowered g d) ≡ eachTask (λ i t. workedOn (lowersIn g d) (runs i) t) d
   unfolding worked
-  ends runs e =
-      ap (eachTask (λ i t. pick (chosen g now (lowered g d) i) (workedTask t) t)) lowers ∙
+  works runs =
+      ap (eachTask (λ i t. pick (runs i) (workedTask t) t)) lowers ∙
       ap runOf
-      (fuse (λ i t. pick (chosen g now (lowered g d) i) (workedTask t) t) (λ i t. calmedTask (calms g d) t) (d .tasks) ∙
-      same-each _ (λ i t. endedTask (calms g d) (runs i t) t) (d .tasks) noTask
-      (λ i l.
-      with-pick (chosen g now (lowered g d) i) (calmedTask (calms g d) (getD (d .tasks) i noTask)) ∙
-      ap (λ b. endedTask (calms g d) b (getD (d .tasks) i noTask)) (e i (omega arith))))
+      (fuse (λ i t. pick (runs i) (workedTask t) t) (λ i t. lowersTask (lowersIn g d) t) (d .tasks) ∙
+      same-each _ (λ i t. workedOn (lowersIn g d) (runs i) t) (d .tasks) noTask
+      (λ i l. with-pick (runs i) (lowersTask (lowersIn g d) (getD (d .tasks) i noTask))))
 
--- ---- the slot, from what its passes answer
--- the queue, the limit and whether the slot is calm, of the run after step 3
-record Looked (g : Setup) (now : ℕ) (d : Run) (calm : Bool) (limit : ℕ) (keys : List ℕ) (n : ℕ) : Type 0 where
-  queue : Queued (g .policy) now d keys n
-  greatest : limit ≡ limitOf (g .procs) keys n
-  quiet : calm ≡ (eqb (g .policy) 1 && leb n (g .procs))
-
-module _ (g : Setup) (now : ℕ) (d : Run) (full : Full d) (some : 1 ≤ g .procs) (calm : Bool) (limit : ℕ) (keys : List ℕ) (n : ℕ) (q : Looked g now d calm limit keys n) where
-  calm-as : calms g d ≡ calm
-  unfolding contentionFree jobsNow
-  calm-as = ap (λ z. isCf g && leb z (g .procs)) (sym (q .queue .all)) ∙ sym (q .quiet)
-
-  chosen-as : (i : ℕ) → i < 32 → chosen g now (lowered g d) i ≡ runsBy (g .policy) now limit i (jobAt d i)
-  chosen-as i l = same-chosen g now d full i l ∙ chosen-by g now d keys n some (q .queue) i l ∙ ap (λ z. runsBy (g .policy) now z i (jobAt d i)) (sym (q .greatest))
-
-  ends-as : worked (chosen g now (lowered g d)) (lowered g d) ≡ eachTask (λ i t. endedTask calm (runsBy (g .policy) now limit i (t .job)) t) d
-  ends-as =
-      ends g now d full (λ i t. runsBy (g .policy) now limit i (t .job)) chosen-as ∙
-      ap (λ b. eachTask (λ i t. endedTask b (runsBy (g .policy) now limit i (t .job)) t) d) calm-as
-
-module _ (g : Setup) (now : ℕ) (s : TaskSet) (r d : Run) (full : Full r) (some : 1 ≤ g .procs) (keys : List ℕ) (n : ℕ) (ds : List Bool) (p : Stirs g now s r d keys n ds) where
-  pub stepped : (calm : Bool) (limit : ℕ) → calm ≡ (eqb (g .policy) 1 && leb n (g .procs)) → limit ≡ limitOf (g .procs) keys n
-      → (e : Run) (rs fs ls : List Bool) → Works (g .policy) now calm limit d e rs fs ls → Stepped g now s r e n ds rs fs ls
-  unfolding after opened ran finished jobsNow
-  stepped calm limit c m e rs fs ls v =
-      let f = demoted-full g _ (readied-full g now s r full) in
-      let q : Looked g now d calm limit keys n = record { queue = p .queue; greatest = m; quiet = c } in
-      let k = rw (p .run) at q in
-      let x = rw (p .run) at v in
+  -- what the last pass leaves is steps 4 to 6
+  pub worked-as : (runs : TaskSet) (b : Bool) (n : ℕ) → n ≡ jobsNow d → b ≡ (demoting (g .policy) && leb n (g .procs))
+      → (a : Run) (fs ls : List Bool) → Left b now runs d a fs ls → Works g now runs d a fs ls
+  unfolding contentionFree
+  worked-as runs b n e q a fs ls w =
+      let z : b ≡ lowersIn g d = q ∙ ap (λ k. demoting (g .policy) && leb k (g .procs)) e in
+      let v = rw z at w in
       record {
-        run = x .run ∙ sym (ends-as g now _ f some calm limit keys n k);
-        jobs = k .queue .all;
-        demoted = p .demoted;
-        ran = x .ran ∙ tab-cong _ _ 0 32 (λ i u l. sym (chosen-as g now _ f some calm limit keys n k i (omega arith)));
-        finished =
-            x .finished ∙
-            tab-cong _ _ 0 32
-            (λ i u l.
-            sym (ap₂ (λ a z. a && lastUnit z) (chosen-as g now _ f some calm limit keys n k i (omega arith)) (kept g now _ f i (omega arith) .left)));
-        late = v .late;
+        run = v .run ∙ sym (works runs);
+        finished = v .finished ∙ tab-cong _ _ 0 32 (λ i u l. ap (λ k. runs i && lastUnit k) (sym (kept i (omega arith) .left)));
+        missed-next = v .next;
       }
+
+-- ---- the slot, from what its parts answer
+-- a set is told by its members below 32
+worked-same : (s u : TaskSet) (r : Run) → Full r → ((i : ℕ) → i < 32 → s i ≡ u i) → worked s r ≡ worked u r
+unfolding worked
+worked-same s u r f h =
+    ap runOf
+    (same-each (λ i t. pick (s i) (workedTask t) t) (λ i t. pick (u i) (workedTask t) t) (r .tasks) noTask
+    (λ i l. ap (λ b. pick b (workedTask (getD (r .tasks) i noTask)) (getD (r .tasks) i noTask)) (h i (omega arith))))
+
+module _ (g : Setup) (now : ℕ) (s : TaskSet) (r d : Run) (full : Full r) (n : ℕ) (ms ds ps : List Bool) (p : Settles g now s r d n ms ds ps) (rs : List Bool)
+    (c : Chosen (g .procs) (g .policy) now d rs) (e : Run) (fs ls : List Bool) (w : Worked (g .procs) (g .policy) now (members rs) d e fs ls) where
+  pub stepped : Stepped g now s r e n ms ds rs fs ls
+  unfolding after opened ran finished
+  stepped =
+      let f = demoted-full g _ (readied-full g now s r full) in
+      let x = rw (p .run) at (c (g .table)) in
+      let v = rw (p .run) at (w (g .table)) in
+      let o : (i : ℕ) → i < 32 → members rs i ≡ chosen g now (lowered g (settled g now s r)) i =
+      λ i l. rw x (tab-at (chosen g now (settled g now s r)) 32 i false l) ∙ sym (same-chosen g now _ f i l) in
+      record {
+        run = v .run ∙ worked-same _ _ _ (lowered-full g _ f) o;
+        jobs = p .jobs ∙ ap jobsNow (p .run);
+        missed = p .missed;
+        demoted = p .demoted;
+        ran = x ∙ tab-cong _ _ 0 32 (λ i u l. sym (same-chosen g now _ f i (omega arith)));
+        finished = v .finished ∙ tab-cong _ _ 0 32 (λ i u l. ap (λ b. b && lastUnit (leftOf (jobAt (lowered g (settled g now s r)) i))) (o i (omega arith)));
+        missed-next = v .missed-next;
+      }
+
+-- ---- whether a choice is to be made
+pub waits : (procs n : ℕ) (d : Run) (b : Bool) → n ≡ jobsNow d → b ≡ ltb procs n → b ≡ true → procs < jobsNow d
+waits procs n d b e q t = omega (arith, e, ltb-true procs n (sym q ∙ t))
+
+pub unchosen : (procs policy now n : ℕ) (d : Run) (ps : List Bool) (b : Bool) → n ≡ jobsNow d → b ≡ ltb procs n → b ≡ false
+    → ps ≡ tab (present d) 0 32 → Chosen procs policy now d ps
+unchosen procs policy now n d ps b e q f h = chosen-all procs policy now d ps (omega (arith, e, ltb-false procs n (sym q ∙ f))) h
+
+-- only jobs that are there are chosen
+pub among : (procs policy now : ℕ) (d : Run) (rs : List Bool) → Chosen procs policy now d rs → Among (members rs) d
+unfolding chosen
+among procs policy now d rs c i l e =
+    and-left (present d i) _ (sym (tab-at (chosen (setupOf procs policy []) now d) 32 i false l) ∙ rw (c []) at e)

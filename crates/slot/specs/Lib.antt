@@ -1,4 +1,2 @@
 pub mod Needed
-pub mod Passes
-pub mod Queues
 pub mod Stepped

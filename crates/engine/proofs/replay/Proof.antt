@@ -26,7 +26,7 @@ free-counts-requires c κs =
 replay-run-requires : tie.Need-replay-run-requires
 replay-run-requires c κs =
     let w = replay-clear _ _ (clear _ _ (c .before .before .before .replay-fault .ensures) (c .before .before .if1 .left)) in
-    (w .0, c .before .free-counts .ensures, w .1)
+    (w .0, (c .before .free-counts .ensures, w .1))
 
 marked-in-requires : tie.Need-marked-in-requires
 marked-in-requires c κs =

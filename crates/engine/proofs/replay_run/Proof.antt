@@ -18,7 +18,7 @@ walk-requires : tie.Need-walk-requires
 walk-requires c κs =
     let q = c .before .before .before .before .before .before .before .before .before .pre in
     let o = room-open _ (legal _ (q .0)) _ _ (c .before .before .before .before .open-records .ensures) in
-    (q .0, q .1, c .before .fresh-run .ensures, omega arith, λ z. o ∙ sym (same-room _ 0 0 _ _ o))
+    (q .0, (q .1 .0, (c .before .fresh-run .ensures, (omega arith, λ z. o ∙ sym (same-room _ 0 0 _ _ o)))))
 
 same-length : tie.Need-same-length
 same-length c = search needs

@@ -40,7 +40,7 @@ slice-aggregate-walk c = search needs
 walk-requires : tie.Need-walk-requires
 walk-requires c κs =
     let w = running-clear _ _ (clear _ _ (c .before .before .before .before .running-fault .ensures) (c .before .before .before .if1 .left)) in
-    (w .0, c .before .before .free-counts .ensures, c .before .fresh-run .ensures, omega (arith, w .1), λ z. absurd (false≢true z))
+    (w .0, (c .before .before .free-counts .ensures, (c .before .fresh-run .ensures, (omega (arith, w .1), λ z. absurd (false≢true z)))))
 
 set-number-requires : tie.Need-set-number-requires
 set-number-requires c κs = search needs

@@ -22,7 +22,7 @@ named c = c .before .before .before .before .before .pre .0 .named (c .before .b
 
 loop-holds : tie.Need-loop-holds Inv-loop μ-loop
 unfolding tab
-loop-holds c = (omega arith, taking-none _ _ _ _ (c .before .pre .1) (c .before .pre .2))
+loop-holds c = (omega arith, taking-none _ _ _ _ (c .before .pre .1 .0) (c .before .pre .1 .1))
 
 mul-if1 : tie.Need-mul-if1 Inv-loop μ-loop
 mul-if1 c = search needs

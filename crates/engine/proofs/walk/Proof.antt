@@ -23,7 +23,7 @@ loop-holds : tie.Need-loop-holds Inv-loop μ-loop
 unfolding tab
 loop-holds c =
     let q = c .before .before .before .pre in
-    record { within = omega arith; walks = walking-none _ _ (q .2); ran = last-none _ _; long = refl; noted = q .4 }
+    record { within = omega arith; walks = walking-none _ _ (q .1 .1 .0); ran = last-none _ _; long = refl; noted = q .1 .1 .1 .1 }
 
 rests-requires : tie.Need-rests-requires Inv-loop μ-loop
 rests-requires c κs = search needs
@@ -32,7 +32,7 @@ turn-requires : tie.Need-turn-requires Inv-loop μ-loop
 turn-requires c κs =
     let q = c .before .before .before .before .before .before .before .before .before .before .before .before .before .pre in
     let v = c .before .before .before .before .before .before .before .before .before .loop .inv in
-    (q .0, q .1, v .walks, omega (arith, q .3), noted-here _ _ _ _ _ _ _ _ _ _ _ v)
+    (q .0, (q .1 .0, (v .walks, (omega (arith, q .1 .1 .1 .0), noted-here _ _ _ _ _ _ _ _ _ _ _ v))))
 
 add-clock : tie.Need-add-clock Inv-loop μ-loop
 add-clock c = search needs

@@ -1,0 +1,209 @@
+-- Steps 1 to 3 of a run are steps 1 to 3 of each task; and the first pass as it goes on.
+use mathlib.Core.Path.{_≡_, refl, ap, sym, _∙_}
+use mathlib.Core.Bool.{Bool, true, false, _&&_, _||_, and-false, true≢false}
+use mathlib.Core.List.{List}
+use Prim.Native.Nat.{ℕ, _+_, _≤_, _<_}
+use native.Mathlib.Nat.{zero-add}
+use native.Mathlib.Numerals.{add-one}
+use native.Mathlib.Omega.{arith}
+use lib.ListN.{getD, set, take, drop, List·getD-append}
+use lib.Seq.{length-take-le, getD-take}
+use Rattle.rules.specs.Words.{pick, bit, sum, countIn, mapAt}
+use Rattle.rules.specs.Counts.{freeCount}
+use Rattle.rules.specs.Policies.{demoting}
+use Rattle.rules.specs.Slot.{Setup, TaskSet, noTask, runOf, withJob, jobAt, isPresent, present, eachTask, isMissed, judgedTask, judged, releasedTask, joinedTask, joined, readied, isDemotedNow, demotedTask, demoted, jobsNow, missed, demotedNow}
+use Rattle.rules.specs.declared.Job.{Job}
+use Rattle.rules.specs.declared.Job.the-variants.{Idle}
+use Rattle.rules.specs.declared.Task.{Task}
+use Rattle.rules.specs.declared.Run.{Run}
+use Rattle.lists.specs.Lists.{mapAt-at}
+use Rattle.lists.specs.Fill.{Filling, filling-at, each-none, each-store, each-keep, filling-all}
+use Rattle.lists.specs.Fuse.{fuse, keep-all}
+use Rattle.bridge.specs.Steps.{Full}
+use Rattle.bridge.specs.Jobs.{idle-now}
+use Rattle.jobs.specs.Tasks.{readiedTask, demotedIf}
+use Rattle.queue.proofs.Marks.{nobody, Marking, mark-none, mark-store, mark-keep, mark-all}
+use Rattle.slot.specs.Stepped.{settled, Settles}
+
+-- step 3 for one task under a policy
+abbrev demotedUnder : Bool → Task → Task
+demotedUnder cf t = demotedIf (cf && isDemotedNow (t .job)) t
+
+-- steps 1 and 2, and steps 1 to 3, for the task at i
+abbrev pub readyTask : Setup → ℕ → TaskSet → ℕ → Task → Task
+readyTask g now s i t = joinedTask g now s i (judgedTask now t)
+
+abbrev pub settledTask : Setup → ℕ → TaskSet → ℕ → Task → Task
+settledTask g now s i t = demotedUnder (demoting (g .policy)) (readyTask g now s i t)
+
+module _ (g : Setup) (now : ℕ) (s : TaskSet) (r : Run) where
+  ready : readied g now s r ≡ eachTask (readyTask g now s) r
+  unfolding joined judged
+  ready = ap runOf (fuse (joinedTask g now s) (λ i t. judgedTask now t) (r .tasks))
+
+  demote : (b : Bool) (x : Run) → pick b (eachTask (λ i t. demotedTask t) x) x ≡ eachTask (λ i t. demotedUnder b t) x
+  demote true x = refl
+  demote false x = sym (ap runOf (keep-all (x .tasks)))
+
+  pub settled-run : settled g now s r ≡ eachTask (settledTask g now s) r
+  unfolding demoted
+  settled-run =
+      demote (demoting (g .policy)) (readied g now s r) ∙ ap (eachTask (λ i t. demotedUnder (demoting (g .policy)) t)) ready ∙
+      ap runOf (fuse (λ i t. demotedUnder (demoting (g .policy)) t) (readyTask g now s) (r .tasks))
+
+  ready-at : (i : ℕ) → i < 32 → Full r → getD (readied g now s r .tasks) i noTask ≡ readyTask g now s i (getD (r .tasks) i noTask)
+  ready-at i l h = ap (λ (x : Run). getD (x .tasks) i noTask) ready ∙ mapAt-at (readyTask g now s) (r .tasks) i noTask (omega arith)
+
+-- what the code makes of a task in steps 1 and 2 is what the definitions say
+number-kept : (b : Bool) (t : Task) → pick b (withJob t Idle) t .number ≡ t .number
+number-kept true t = refl
+number-kept false t = refl
+
+ready-as : (g : Setup) (now : ℕ) (i f : ℕ) (b : Bool) (t : Task) → (b ≡ true → f ≡ freeCount (g .procs) (g .table) i)
+    → readiedTask (g .table) i f b now t ≡ pick b (releasedTask g now i (judgedTask now t)) (judgedTask now t)
+ready-as g now i f true t h = rw (h refl, number-kept (isMissed now (t .job)) t)
+ready-as g now i f false t h = refl
+
+either-false : (a b : Bool) → (a || b) ≡ false → (a ≡ false) × (b ≡ false)
+either-false false b e = (refl, e)
+either-false true b e = absurd (true≢false e)
+
+-- a task that is not released and whose job is neither missed nor demoted stays as it is
+ready-same : (g : Setup) (now : ℕ) (s : TaskSet) (i : ℕ) (t : Task) → s i ≡ false → isMissed now (t .job) ≡ false → readyTask g now s i t ≡ t
+ready-same g now s i t n m = rw (n, m)
+
+demoted-same : (cf : Bool) (t : Task) → (cf && isDemotedNow (t .job)) ≡ false → demotedUnder cf t ≡ t
+demoted-same cf t e = rw e
+
+-- what has been filled in is there
+filling-past : (n : ℕ) (ys xs s : List Task) (i : ℕ) (d : Task) → i < n → Filling n ys xs s (i + 1) → getD s i d ≡ getD ys i d
+filling-past n ys xs s i d l w =
+    ap (λ (z : List Task). getD z i d) (w .so-far) ∙
+    List·getD-append (take (i + 1) ys) (drop (i + 1) xs) d i (omega (arith, length-take-le (i + 1) ys (omega (arith, w .long′)))) ∙
+    getD-take (i + 1) ys i d (omega arith)
+
+-- one task more is counted
+count-more : (p : ℕ → Bool) (i n m : ℕ) (b : Bool) → n ≡ countIn p 0 i → m ≡ n + bit b → p i ≡ b → m ≡ countIn p 0 (i + 1)
+unfolding sum
+count-more p i n m b e h q = rw (add-one i, zero-add i, q) (omega arith)
+
+-- ---- the first pass as it goes on: the tasks, the missed, the demoted and the jobs, all up to i
+pub record Settling (g : Setup) (now : ℕ) (s : TaskSet) (r : Run) (ts : List Task) (ms ds ps : List Bool) (n i : ℕ) : Type 0 where
+  pub full : Full r
+  pub tasks : Filling 32 (mapAt (settledTask g now s) (r .tasks)) (r .tasks) ts i
+  pub removed : Marking (missed g now s r) ms i
+  pub low : Marking (demotedNow g now s r) ds i
+  pub there : Marking (present (settled g now s r)) ps i
+  pub few : n ≤ i
+  pub counts : n ≡ countIn (present (settled g now s r)) 0 i
+
+-- the same where the task at i is settled and not yet counted
+pub record Changed (g : Setup) (now : ℕ) (s : TaskSet) (r : Run) (ts : List Task) (ms ds : List Bool) (i : ℕ) : Type 0 where
+  pub full : Full r
+  pub tasks : Filling 32 (mapAt (settledTask g now s) (r .tasks)) (r .tasks) ts (i + 1)
+  pub removed : Marking (missed g now s r) ms (i + 1)
+  pub low : Marking (demotedNow g now s r) ds (i + 1)
+
+pub settle-none : (g : Setup) (now : ℕ) (s : TaskSet) (r : Run) → Full r → Settling g now s r (r .tasks) nobody nobody nobody 0 0
+unfolding sum
+settle-none g now s r h =
+    record { full = h; tasks = each-none (settledTask g now s) 32 (r .tasks) h; removed = mark-none _; low = mark-none _; there = mark-none _; few = omega arith; counts = refl }
+
+bit-few : (n m i : ℕ) (b : Bool) → n ≤ i → m ≡ n + bit b → m ≤ i + 1
+bit-few n m i true l e = omega arith
+bit-few n m i false l e = omega arith
+
+module _ (g : Setup) (now : ℕ) (s : TaskSet) (r : Run) (ts : List Task) (ms ds ps : List Bool) (n i : ℕ) (l : i < 32) (w : Settling g now s r ts ms ds ps n i) where
+  was : getD ts i noTask ≡ getD (r .tasks) i noTask
+  was = filling-at 32 (mapAt (settledTask g now s) (r .tasks)) (r .tasks) ts i noTask l (w .tasks)
+
+  removed-as : missed g now s r i ≡ isMissed now (getD ts i noTask .job)
+  unfolding missed
+  removed-as = ap (λ (t : Task). isMissed now (t .job)) (sym was)
+
+  low-as : demotedNow g now s r i ≡ (demoting (g .policy) && isDemotedNow (readyTask g now s i (getD ts i noTask) .job))
+  unfolding demotedNow
+  low-as = ap (λ (t : Task). demoting (g .policy) && isDemotedNow (t .job)) (ready-at g now s r i l (w .full) ∙ ap (readyTask g now s i) (sym was))
+
+  pub settle-store : (f : ℕ) (u v : Task) (a b : Bool) → (s i ≡ true → f ≡ freeCount (g .procs) (g .table) i)
+      → u ≡ readiedTask (g .table) i f (s i) now (getD ts i noTask)
+      → b ≡ (demoting (g .policy) && isDemotedNow (u .job)) → v ≡ demotedIf b u → a ≡ isMissed now (getD ts i noTask .job)
+      → Changed g now s r (set ts i v) (set ms i a) (set ds i b) i
+  settle-store f u v a b h y q z x =
+      let e : u ≡ readyTask g now s i (getD ts i noTask) = y ∙ ready-as g now i f (s i) (getD ts i noTask) h in
+      let o : v ≡ settledTask g now s i (getD ts i noTask) = z ∙ rw (q, e) in
+      record {
+        full = w .full;
+        tasks = each-store (settledTask g now s) 32 (r .tasks) ts i noTask v l (w .tasks) o;
+        removed = mark-store (missed g now s r) ms i a l (w .removed) (x ∙ sym removed-as);
+        low = mark-store (demotedNow g now s r) ds i b l (w .low) (q ∙ rw e (sym low-as));
+      }
+
+  -- no step changes it
+  pub settle-keep : (s i || isMissed now (getD ts i noTask .job) || (demoting (g .policy) && isDemotedNow (getD ts i noTask .job))) ≡ false → Changed g now s r ts ms ds i
+  settle-keep e =
+      let f = either-false (s i || isMissed now (getD ts i noTask .job)) _ e in
+      let h = either-false (s i) (isMissed now (getD ts i noTask .job)) (f .0) in
+      let k = ready-same g now s i (getD ts i noTask) (h .0) (h .1) in
+      record {
+        full = w .full;
+        tasks = each-keep (settledTask g now s) 32 (r .tasks) ts i noTask l (w .tasks)
+            (ap (demotedUnder (demoting (g .policy))) k ∙ demoted-same (demoting (g .policy)) (getD ts i noTask) (f .1));
+        removed = mark-keep (missed g now s r) ms i l (w .removed) (removed-as ∙ h .1);
+        low = mark-keep (demotedNow g now s r) ds i l (w .low) (low-as ∙ ap (λ (t : Task). demoting (g .policy) && isDemotedNow (t .job)) k ∙ f .1);
+      }
+
+  here : {ts' : List Task} {ms' ds' : List Bool} → Changed g now s r ts' ms' ds' i → isPresent (jobAt (settled g now s r) i) ≡ isPresent (getD ts' i noTask .job)
+  here {ts'} v =
+      ap (λ (x : Run). isPresent (jobAt x i)) (settled-run g now s r) ∙
+      ap (λ (x : Task). isPresent (x .job)) (sym (filling-past 32 _ _ ts' i noTask l (v .tasks)))
+
+  -- it is counted
+  pub settle-next : (ts' : List Task) (ms' ds' : List Bool) (d : Bool) (m : ℕ) → Changed g now s r ts' ms' ds' i → d ≡ isPresent (getD ts' i noTask .job)
+      → m ≡ n + bit (isPresent (getD ts' i noTask .job)) → Settling g now s r ts' ms' ds' (set ps i d) m (i + 1)
+  unfolding present
+  settle-next ts' ms' ds' d m v p k =
+      let t = here v in
+      record {
+        full = v .full;
+        tasks = v .tasks;
+        removed = v .removed;
+        low = v .low;
+        there = mark-store (present (settled g now s r)) ps i d l (w .there) (p ∙ sym t);
+        few = bit-few n m i (isPresent (getD ts' i noTask .job)) (w .few) k;
+        counts = count-more (present (settled g now s r)) i n m (isPresent (getD ts' i noTask .job)) (w .counts) k t;
+      }
+
+  -- it has no job, and none is released
+  pub settle-skip : (s i || isPresent (getD ts i noTask .job)) ≡ false → Settling g now s r ts ms ds ps n (i + 1)
+  unfolding present
+  settle-skip e =
+      let f = either-false (s i) (isPresent (getD ts i noTask .job)) e in
+      let v = settle-keep (idle-kept (demoting (g .policy)) (s i) (getD ts i noTask .job) (f .0) (f .1)) in
+      let t = here v ∙ f .1 in
+      record {
+        full = v .full;
+        tasks = v .tasks;
+        removed = v .removed;
+        low = v .low;
+        there = mark-keep (present (settled g now s r)) ps i l (w .there) t;
+        few = omega (arith, w .few);
+        counts = count-more (present (settled g now s r)) i n n false (w .counts) (omega arith) t;
+      }
+    where
+      idle-kept : (cf b : Bool) (j : Job) → b ≡ false → isPresent j ≡ false → (b || isMissed now j || (cf && isDemotedNow j)) ≡ false
+      idle-kept cf b j n p = rw (n, idle-now j p, and-false cf)
+
+pub settle-all : (g : Setup) (now : ℕ) (s : TaskSet) (r a : Run) (ms ds ps : List Bool) (n i : ℕ) → 32 ≤ i → Settling g now s r (a .tasks) ms ds ps n i
+    → Settles g now s r a n ms ds ps
+unfolding jobsNow
+settle-all g now s r a ms ds ps n i l w =
+    let e : i ≡ 32 = omega (arith, w .tasks .within) in
+    let x : a ≡ settled g now s r = ap runOf (filling-all 32 _ _ _ i l (w .tasks)) ∙ sym (settled-run g now s r) in
+    record {
+      run = x;
+      jobs = rw x (rw e at (w .counts));
+      missed = mark-all _ ms i l (w .removed);
+      demoted = mark-all _ ds i l (w .low);
+      present = rw x (mark-all (present (settled g now s r)) ps i l (w .there));
+    }
