@@ -8,11 +8,15 @@ ghost use Rattle.rules.specs.Answers.{takenAs};
 ghost use Rattle.prints.specs.Lines.{lineRoom, Printed};
 ghost use Rattle.report.specs.Cases.{refusalText, printRoom};
 ghost use Rattle.answers.specs.Prints.{caseSays, textSays, wishFault};
+use reader::RELEASES_ROOM;
+use reader::TASKS_ROOM;
 use report::put_free_counts;
 use report::put_report;
 use report::put_slot;
 use report::put_text;
 use rules::Fault;
+use rules::RELEASE_WIDTH;
+use rules::TASK_WIDTH;
 use rules::Taken;
 use wishes::Wish;
 
@@ -62,8 +66,8 @@ pub fn answer(wish: Wish, text: &[u8], out: &mut [u8]) -> usize
     requires { ⌜ printRoom ≤ length (now out) ⌝ }
     ensures { λ r. ⌜ Printed printRoom (textSays wish (now (text .entry))) (now (out .entry)) (now (out .exit)) r ⌝ }
 {
-    let mut rows = [0u32; 96];
-    let mut times = [0u32; 4000];
+    let mut rows = [0u32; TASKS_ROOM];
+    let mut times = [0u32; RELEASES_ROOM];
     let taken = reader::read(text, &mut rows, &mut times);
     let Taken::Read {
         procs,
@@ -75,8 +79,8 @@ pub fn answer(wish: Wish, text: &[u8], out: &mut [u8]) -> usize
     else {
         return put_refusal(out, taken);
     };
-    let t = tasks * 3;
-    let r = releases * 2;
+    let t = tasks * TASK_WIDTH;
+    let r = releases * RELEASE_WIDTH;
     put_wish(out, wish, procs, policy, &rows[0..t], end, &times[0..r])
 }
 
@@ -84,8 +88,8 @@ pub fn answer(wish: Wish, text: &[u8], out: &mut [u8]) -> usize
 pub fn fault_of(wish: Wish, text: &[u8]) -> Fault
     ensures { λ r. ⌜ r ≡ wishFault wish (now (text .entry)) ⌝ }
 {
-    let mut rows = [0u32; 96];
-    let mut times = [0u32; 4000];
+    let mut rows = [0u32; TASKS_ROOM];
+    let mut times = [0u32; RELEASES_ROOM];
     let taken = reader::read(text, &mut rows, &mut times);
     match taken {
         Taken::Refused { number, place } => Fault { number, place },

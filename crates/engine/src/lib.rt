@@ -12,6 +12,7 @@ ghost use Rattle.rules.specs.Replay.{fresh};
 ghost use Rattle.counts.specs.Needs.{Counts};
 ghost use Rattle.bridge.specs.Turn.{Reached};
 ghost use Rattle.engine.specs.Walks.{Orderly, places, releases, Rests, roomAt, Walking, Turned, LastRan};
+use rules::RELEASE_WIDTH;
 use rules::Replayed;
 use rules::Run;
 use rules::Running;
@@ -32,11 +33,11 @@ fn take_releases(
     ensures { λ next. ⌜ Reached (now (trace .entry)) next (suc clock) × (now (place .exit) ≡ places (now (trace .entry)) next) × (now (released .exit) ≡ releases (now (trace .entry)) (releaseCount (now (trace .entry))) clock) ⌝ }
 {
     *released = [false; 32];
-    let n = trace.len() / 2;
+    let n = trace.len() / RELEASE_WIDTH;
     let mut k = from;
     while k < n {
-        if trace[k * 2] == clock {
-            let i = trace[k * 2 + 1] as usize - 1;
+        if trace[k * RELEASE_WIDTH] == clock {
+            let i = trace[k * RELEASE_WIDTH + 1] as usize - 1;
             released[i] = true;
             place[i] = k;
             k += 1;
@@ -51,10 +52,10 @@ fn take_releases(
 fn rests(trace: &[u32], next: usize, jobs: usize, clock: u32) -> bool
     ensures { λ r. ⌜ (r ≡ true → Rests (now (trace .entry)) next jobs clock) ⌝ }
 {
-    let n = trace.len() / 2;
+    let n = trace.len() / RELEASE_WIDTH;
     if jobs == 0 {
         if next < n {
-            return trace[next * 2] != clock;
+            return trace[next * RELEASE_WIDTH] != clock;
         }
         return true;
     }
@@ -184,7 +185,7 @@ fn replay_run(
     requires { ⌜ releaseCount (now trace) * recordWidth ≤ length (now out) ⌝ }
     ensures { λ r. ⌜ now (out .exit) ≡ roomAfter (caseOf procs policy (now (table .entry)) end (now (trace .entry))) (now (out .entry)) ⌝ }
 {
-    let n = trace.len() / 2;
+    let n = trace.len() / RELEASE_WIDTH;
     notes::open_records(out, n);
     let first = slot::fresh_run();
     walk(
@@ -221,7 +222,7 @@ pub fn replay(
     }
     let free = counts::free_counts(procs, table);
     replay_run(procs, policy, table, free, end, trace, out);
-    let n = trace.len() / 2;
+    let n = trace.len() / RELEASE_WIDTH;
     let met = notes::marked_in(out, n, 1);
     let missed = notes::marked_in(out, n, 2);
     let open = notes::marked_in(out, n, 3);

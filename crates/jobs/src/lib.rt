@@ -9,6 +9,7 @@ ghost use Rattle.rules.specs.Slot.{isPresent, isDemoted, leftOf, freeOf, dueOf,
 ghost use Rattle.rules.specs.Policies.{demoting};
 ghost use Rattle.jobs.specs.Tasks.{isNormal, Early, Startable, startedTask, readiedTask, demotedIf, loweredIf, workedIf, workedOn};
 use rules::Job;
+use rules::TASK_WIDTH;
 use rules::Task;
 
 // ---- what a job has
@@ -148,8 +149,8 @@ pub fn readied_task(t: Task, table: &[u32], i: usize, free: u32, released: bool,
 {
     let next = clock + 1;
     if released {
-        let left = table[i * 3 + 1];
-        let due = clock + table[i * 3 + 2];
+        let left = table[i * TASK_WIDTH + 1];
+        let due = clock + table[i * TASK_WIDTH + 2];
         Task {
             number: t.number,
             last: next,

@@ -95,20 +95,20 @@ pub fn next_release(text: &[u8], at: usize) -> Step
     requires { ⌜ at < length (now text) ⌝ }
     ensures { λ r. ⌜ NextLine (now (text .entry)) at r ⌝ }
 {
-    let end = scan::line_end(text, at);
-    if end < text.len() {
-        let found = kinds::release_says(scan::line(text, at, end));
+    let newline = scan::line_end(text, at);
+    if newline < text.len() {
+        let found = kinds::release_says(scan::line(text, at, newline));
         let said = found.line;
         Step {
             kind: found.kind,
             said,
-            next: end + 1,
+            next: newline + 1,
         }
     } else {
         Step {
             kind: 0,
             said: Line::Bad,
-            next: end,
+            next: newline,
         }
     }
 }

@@ -12,6 +12,7 @@ ghost use Rattle.rules.specs.Replay.{numbers};
 ghost use Rattle.bridge.specs.Events.{event, entry};
 ghost use Rattle.bridge.specs.Notes.{put3, noteTo};
 ghost use Rattle.notes.specs.Noted.{Roomy, Uneventful, openRecord};
+use rules::RECORD_WIDTH;
 
 // ---- what happens to a job
 
@@ -55,11 +56,11 @@ fn note_task(out: &mut [u32], p: usize, finished: bool, demoted: bool, missed: b
 {
     let v = verdict_after(finished, missed);
     let f = time_after(finished, clock, 0);
-    let old = out[p * 3 + 2];
+    let old = out[p * RECORD_WIDTH + 2];
     let d = time_after(demoted, clock, old);
-    out[p * 3] = v;
-    out[p * 3 + 1] = f;
-    out[p * 3 + 2] = d;
+    out[p * RECORD_WIDTH] = v;
+    out[p * RECORD_WIDTH + 1] = f;
+    out[p * RECORD_WIDTH + 2] = d;
 }
 
 // Writes what happened to each job in a slot.
@@ -128,9 +129,9 @@ pub fn open_records(out: &mut [u32], len: usize)
 {
     let mut j: usize = 0;
     while j < len {
-        out[j * 3] = 3;
-        out[j * 3 + 1] = 0;
-        out[j * 3 + 2] = 0;
+        out[j * RECORD_WIDTH] = 3;
+        out[j * RECORD_WIDTH + 1] = 0;
+        out[j * RECORD_WIDTH + 2] = 0;
         j += 1;
     }
 }
@@ -144,7 +145,7 @@ pub fn marked_in(out: &[u32], n: usize, v: u32) -> u32
     let mut s: u32 = 0;
     let mut j: usize = 0;
     while j < n {
-        if out[j * 3] == v {
+        if out[j * RECORD_WIDTH] == v {
             s += 1;
         }
         j += 1;

@@ -8,6 +8,7 @@ use libc::STDERR_FILENO;
 use libc::STDIN_FILENO;
 use libc::STDOUT_FILENO;
 use rules::Fault;
+use rules::MAX_TEXT;
 use wishes::Asked;
 use wishes::Wish;
 
@@ -190,7 +191,7 @@ fn finish(fault: Fault, quiet: bool) {
 // Reads the case, of which one byte more than a text may have is enough to refuse it, and writes the answer. Where a read failed nothing is
 // written: what came may be a shorter case than what was there.
 fn run(wish: Wish, quiet: bool) {
-    let mut text = [0u8; 60001];
+    let mut text = [0u8; MAX_TEXT + 1];
     let mut out = blank();
     let input = read_text(STDIN_FILENO, &mut text);
     if input.failed {

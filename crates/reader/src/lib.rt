@@ -24,9 +24,9 @@ use rules::TASK_WIDTH;
 use rules::Taken;
 
 // The rooms that the reader needs: for as many tasks and releases as a case may have.
-const TASKS_ROOM: usize = MAX_TASKS * TASK_WIDTH;
+pub const TASKS_ROOM: usize = MAX_TASKS * TASK_WIDTH;
 
-const RELEASES_ROOM: usize = MAX_RELEASES * RELEASE_WIDTH;
+pub const RELEASES_ROOM: usize = MAX_RELEASES * RELEASE_WIDTH;
 
 // What is at fault with the lent rooms.
 fn rooms_fault(tasks: usize, releases: usize) -> Fault

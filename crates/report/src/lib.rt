@@ -16,9 +16,16 @@ use prints::put_run;
 use prints::put_running;
 use prints::put_total;
 use rules::Counted;
+use rules::MAX_RELEASES;
+use rules::RECORD_WIDTH;
+use rules::RELEASE_WIDTH;
 use rules::Replayed;
 use rules::Running;
+use rules::TASK_WIDTH;
 use rules::Written;
+
+// Room for the records of as many releases as a case may have.
+const RECORDS_ROOM: usize = MAX_RELEASES * RECORD_WIDTH;
 
 // Writes the job line of release j.
 fn put_release(out: &mut [u8], table: &[u32], trace: &[u32], records: &[u32], j: usize) -> usize
@@ -26,13 +33,13 @@ fn put_release(out: &mut [u8], table: &[u32], trace: &[u32], records: &[u32], j:
     requires { ⌜ Stands (now table) (now trace) (now records) j ⌝ }
     ensures { λ r. ⌜ Printed jobRoom (jobText (now (table .entry)) (now (trace .entry)) (now (records .entry)) j) (now (out .entry)) (now (out .exit)) r ⌝ }
 {
-    let time = trace[j * 2];
-    let task = trace[j * 2 + 1];
+    let time = trace[j * RELEASE_WIDTH];
+    let task = trace[j * RELEASE_WIDTH + 1];
     let place = task as usize - 1;
-    let due = time + table[place * 3 + 2];
-    let verdict = records[j * 3];
-    let finish = records[j * 3 + 1];
-    let demotion = records[j * 3 + 2];
+    let due = time + table[place * TASK_WIDTH + 2];
+    let verdict = records[j * RECORD_WIDTH];
+    let finish = records[j * RECORD_WIDTH + 1];
+    let demotion = records[j * RECORD_WIDTH + 2];
     put_job(out, time, task, due, verdict, finish, demotion)
 }
 
@@ -42,7 +49,7 @@ fn put_jobs(out: &mut [u8], at: usize, table: &[u32], trace: &[u32], records: &[
     requires { ⌜ ((j : ℕ) → j < releaseCount (now trace) → Stands (now table) (now trace) (now records) j) ⌝ }
     ensures { λ r. ⌜ Listed (jobText (now (table .entry)) (now (trace .entry)) (now (records .entry))) jobRoom at (releaseCount (now (trace .entry))) (now (out .entry)) (now (out .exit)) r ⌝ }
 {
-    let n = trace.len() / 2;
+    let n = trace.len() / RELEASE_WIDTH;
     let mut end = at;
     let mut j: usize = 0;
     while j < n {
@@ -66,13 +73,13 @@ pub fn put_report(
     requires { ⌜ Accepted (caseOf procs policy (now table) end (now trace)) ⌝ }
     ensures { λ r. ⌜ Printed printRoom (report (caseOf procs policy (now (table .entry)) end (now (trace .entry)))) (now (out .entry)) (now (out .exit)) r ⌝ }
 {
-    let mut records = [0u32; 6000];
+    let mut records = [0u32; RECORDS_ROOM];
     let replayed = engine::replay(procs, policy, table, end, trace, &mut records);
     match replayed {
         Replayed::Refused { number, place } => put_refused(out, number, place),
         Replayed::Judged { met, missed, open } => {
-            let tasks = (table.len() / 3) as u32;
-            let releases = (trace.len() / 2) as u32;
+            let tasks = (table.len() / TASK_WIDTH) as u32;
+            let releases = (trace.len() / RELEASE_WIDTH) as u32;
             let at = put_run(out, policy, procs, tasks, end);
             let last = put_jobs(out, at, table, trace, &records);
             let length = put_total(&mut out[last..], releases, met, missed, open);

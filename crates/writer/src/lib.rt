@@ -20,7 +20,9 @@ use rules::END;
 use rules::POLICY;
 use rules::PROCS;
 use rules::RELEASE;
+use rules::RELEASE_WIDTH;
 use rules::TASK;
+use rules::TASK_WIDTH;
 use rules::Written;
 
 // Writes the policy line at the start.
@@ -70,7 +72,14 @@ fn put_tail(out: &mut [u8], at: usize, end: u32, trace: &[u32]) -> usize
 {
     let numbers = [end];
     let n = put_line(&mut out[at..], TAB, END, &numbers);
-    put_rows(out, at + n, RELEASE, 2, trace.len() / 2, trace)
+    put_rows(
+        out,
+        at + n,
+        RELEASE,
+        RELEASE_WIDTH,
+        trace.len() / RELEASE_WIDTH,
+        trace,
+    )
 }
 
 // Writes the text of a case at the start.
@@ -86,7 +95,14 @@ fn put_case(
     ensures { λ r. ⌜ Laid 0 (caseText (caseOf procs policy (now (table .entry)) end (now (trace .entry)))) (now (out .entry)) (now (out .exit)) r ⌝ }
 {
     let tasks = put_head(out, procs, policy);
-    let tail = put_rows(out, tasks, TASK, 3, table.len() / 3, table);
+    let tail = put_rows(
+        out,
+        tasks,
+        TASK,
+        TASK_WIDTH,
+        table.len() / TASK_WIDTH,
+        table,
+    );
     put_tail(out, tail, end, trace)
 }
 
@@ -97,8 +113,8 @@ fn text_length(procs: u32, policy: u32, table: &[u32], end: u32, trace: &[u32]) 
 {
     // `procs`, `policy` and `end` have one field each, whose tab is counted with the word and the newline
     let head = 7 + width(procs) + 8 + policy_width(policy);
-    let tasks = table.len() / 3 * 5 + numbers_width(table);
-    let releases = trace.len() / 2 * 8 + numbers_width(trace);
+    let tasks = table.len() / TASK_WIDTH * 5 + numbers_width(table);
+    let releases = trace.len() / RELEASE_WIDTH * 8 + numbers_width(trace);
     head + tasks + 5 + width(end) + releases
 }
 
