@@ -44,7 +44,8 @@ module _ (w : Wish) (s ts rs : List ℕ) (x : Taken) (h : takenAs x ≡ readAnsw
   fault-refused n p e a b =
       let f : readFault s (length ts) (length rs) ≡ pick (eqb (textFault s .number) 0) noFault (textFault s) =
       read-fault s ts rs (omega arith) (omega arith) in
-      let r = refused-by (pick (eqb (textFault s .number) 0) noFault (textFault s)) (caseValues (caseIn s)) n p (sym (ap takenAs e) ∙ h ∙ ap (λ (g : Fault). settled g (caseValues (caseIn s))) f) in
+      let r = refused-by (pick (eqb (textFault s .number) 0) noFault (textFault s))
+      (caseValues (caseIn s)) n p (sym (ap takenAs e) ∙ h ∙ ap (λ (g : Fault). settled g (caseValues (caseIn s))) f) in
       go (eqb (textFault s .number) 0) (r .0) (r .1)
     where
       go : (b : Bool) → eqb (pick b noFault (textFault s) .number) 0 ≡ false → faultOf n p ≡ pick b noFault (textFault s)
@@ -60,11 +61,13 @@ module _ (w : Wish) (s ts rs : List ℕ) (x : Taken) (h : takenAs x ≡ readAnsw
       rw (text-clear s ts rs m p e n k g, d)
 
 -- where there is a fault, what is printed is the line of that refusal
-slot-printed : (c : Case) (b : Bool) (t : ℕ) → (unless b 15 0 .number ≡ 0 → ⊥) → pick b (runningLine t (runningSet c t)) (refusedLine 15 0) ≡ refusedLine (unless b 15 0 .number) (unless b 15 0 .place)
+slot-printed : (c : Case) (b : Bool) (t : ℕ) → (unless b 15 0 .number ≡ 0 → ⊥)
+    → pick b (runningLine t (runningSet c t)) (refusedLine 15 0) ≡ refusedLine (unless b 15 0 .number) (unless b 15 0 .place)
 slot-printed c true t h = absurd (h refl)
 slot-printed c false t h = refl
 
-asked-printed : (w : Wish) (c : Case) → (askedFault w (c .end) .number ≡ 0 → ⊥) → caseSays w c ≡ refusedLine (askedFault w (c .end) .number) (askedFault w (c .end) .place)
+asked-printed : (w : Wish) (c : Case) → (askedFault w (c .end) .number ≡ 0 → ⊥)
+    → caseSays w c ≡ refusedLine (askedFault w (c .end) .number) (askedFault w (c .end) .place)
 unfolding caseSays askedFault slotFault
 asked-printed Unknown c h = absurd (h refl)
 asked-printed Help c h = absurd (h refl)
@@ -73,12 +76,14 @@ asked-printed Counts c h = absurd (h refl)
 asked-printed (Slot t) c h = slot-printed c (ltb t (c .end)) t h
 asked-printed Write c h = absurd (h refl)
 
-pub fault-printed : (w : Wish) (s : List ℕ) → (wishFault w s .number ≡ 0 → ⊥) → textSays w s ≡ refusedLine (wishFault w s .number) (wishFault w s .place)
+pub fault-printed : (w : Wish) (s : List ℕ) → (wishFault w s .number ≡ 0 → ⊥)
+    → textSays w s ≡ refusedLine (wishFault w s .number) (wishFault w s .place)
 unfolding textSays wishFault orNext
 fault-printed w s h = go (eqb (textFault s .number) 0) h
   where
     go : (b : Bool) → (pick b (askedFault w (caseIn s .end)) (textFault s) .number ≡ 0 → ⊥)
         → pick b (caseSays w (caseIn s)) (refusedLine (textFault s .number) (textFault s .place)) ≡
-        refusedLine (pick b (askedFault w (caseIn s .end)) (textFault s) .number) (pick b (askedFault w (caseIn s .end)) (textFault s) .place)
+        refusedLine (pick b (askedFault w (caseIn s .end)) (textFault s) .number)
+        (pick b (askedFault w (caseIn s .end)) (textFault s) .place)
     go true h = asked-printed w (caseIn s) h
     go false h = refl

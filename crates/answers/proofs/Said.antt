@@ -21,13 +21,16 @@ use Rattle.wishes.specs.declared.Wish.{Wish}
 use Rattle.answers.proofs.Taken.{refused-text, tasks-few, releases-few, tasks-long, releases-long, case-stands, case-says}
 
 -- ---- the reader
-pub refusal-put : (t : Taken) (n p : ℕ) (old new : List ℕ) (k : ℕ) → t ≡ Taken·.Refused n p → Printed lineRoom (refusedLine n p) old new k → Printed lineRoom (refusalText (takenAs t)) old new k
+pub refusal-put : (t : Taken) (n p : ℕ) (old new : List ℕ) (k : ℕ) → t ≡ Taken·.Refused n p → Printed lineRoom (refusedLine n p) old new k
+    → Printed lineRoom (refusalText (takenAs t)) old new k
 refusal-put t n p old new k e q = rw e q
 
-pub nothing-put : (t : Taken) (a b d e f : ℕ) (old : List ℕ) → t ≡ Taken·.Read a b d e f → Printed lineRoom (refusalText (takenAs t)) old old 0
+pub nothing-put : (t : Taken) (a b d e f : ℕ) (old : List ℕ) → t ≡ Taken·.Read a b d e f
+    → Printed lineRoom (refusalText (takenAs t)) old old 0
 nothing-put t a b d e f old q = rw q (record { laid = laid-none 0 old; short = omega arith })
 
-pub refusal-shown : (s ts rs : List ℕ) (w : Wish) (t : Taken) (n p : ℕ) (old new : List ℕ) (k : ℕ) → t ≡ Taken·.Refused n p → takenAs t ≡ readAnswer s ts rs
+pub refusal-shown : (s ts rs : List ℕ) (w : Wish) (t : Taken) (n p : ℕ) (old new : List ℕ) (k : ℕ) → t ≡ Taken·.Refused n p
+    → takenAs t ≡ readAnswer s ts rs
     → length ts ≡ maxTasks * taskWidth
     → length rs ≡ maxReleases * releaseWidth
     → Printed lineRoom (refusalText (takenAs t)) old new k
@@ -66,13 +69,15 @@ module _ (s ts rs : List ℕ) (t : Taken) (m p e n k : ℕ) (q : t ≡ Taken·.R
     pub taken-stands : Accepted taken
     taken-stands = rw in-hand (case-stands s ts rs m p e n k read)
 
-    pub taken-shown : (w : Wish) (old new : List ℕ) (j : ℕ) → Printed printRoom (caseSays w taken) old new j → Printed printRoom (textSays w s) old new j
+    pub taken-shown : (w : Wish) (old new : List ℕ) (j : ℕ) → Printed printRoom (caseSays w taken) old new j
+        → Printed printRoom (textSays w s) old new j
     taken-shown w old new j x =
         let l : caseSays w taken ≡ textSays w s = ap (caseSays w) in-hand ∙ case-says s ts rs m p e n k read w in
         rw l at x
 
 -- ---- a wish by its case
-pub wish-shown : (w v : Wish) (c : Case) (old new : List ℕ) (k : ℕ) → w ≡ v → Printed printRoom (caseSays v c) old new k → Printed printRoom (caseSays w c) old new k
+pub wish-shown : (w v : Wish) (c : Case) (old new : List ℕ) (k : ℕ) → w ≡ v → Printed printRoom (caseSays v c) old new k
+    → Printed printRoom (caseSays w c) old new k
 wish-shown w v c old new k e q = rw e q
 
 pub nothing-shown : (old : List ℕ) → Printed printRoom [] old old 0

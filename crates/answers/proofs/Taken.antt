@@ -25,15 +25,18 @@ use Rattle.report.proofs.Answers.{refusal-says}
 
 module _ (s ts rs : List ℕ) where
   -- ---- a refusal
-  pub read-fault : maxTasks * taskWidth ≤ length ts → maxReleases * releaseWidth ≤ length rs → readFault s (length ts) (length rs) ≡ pick (eqb (textFault s .number) 0) noFault (textFault s)
+  pub read-fault : maxTasks * taskWidth ≤ length ts → maxReleases * releaseWidth ≤ length rs
+      → readFault s (length ts) (length rs) ≡ pick (eqb (textFault s .number) 0) noFault (textFault s)
   unfolding readFault roomFault orNext
   read-fault p q = rw (le-leb (maxTasks * taskWidth) (length ts) p, le-leb (maxReleases * releaseWidth) (length rs) q)
 
-  pub refused-text : (w : Wish) (n p : ℕ) → maxTasks * taskWidth ≤ length ts → maxReleases * releaseWidth ≤ length rs → refusal n p ≡ readAnswer s ts rs → refusedLine n p ≡ textSays w s
+  pub refused-text : (w : Wish) (n p : ℕ) → maxTasks * taskWidth ≤ length ts → maxReleases * releaseWidth ≤ length rs
+      → refusal n p ≡ readAnswer s ts rs → refusedLine n p ≡ textSays w s
   unfolding readAnswer textSays
   refused-text w n p a b h =
       let e : readFault s (length ts) (length rs) ≡ pick (eqb (textFault s .number) 0) noFault (textFault s) = read-fault a b in
-      let r = refusal-says (pick (eqb (textFault s .number) 0) noFault (textFault s)) (caseValues (caseIn s)) n p (h ∙ ap (λ (f : Fault). settled f (caseValues (caseIn s))) e) in
+      let r = refusal-says (pick (eqb (textFault s .number) 0) noFault (textFault s))
+      (caseValues (caseIn s)) n p (h ∙ ap (λ (f : Fault). settled f (caseValues (caseIn s))) e) in
       go (eqb (textFault s .number) 0) (r .0) (r .1)
     where
       go : (b : Bool) → eqb (pick b noFault (textFault s) .number) 0 ≡ false
@@ -78,11 +81,23 @@ module _ (s ts rs : List ℕ) where
     -- the numbers read are there
     pub tasks-long : n * taskWidth ≤ length (readTasks s ts rs)
     tasks-long =
-        omega (arith, tasks-read, stands .threes, ap length (read .tasks-after) ∙ length-append (caseIn s .table) (drop (length (caseIn s .table)) ts))
+        omega (
+          arith,
+          tasks-read,
+          stands .threes,
+          ap length (read .tasks-after)
+              ∙ length-append (caseIn s .table) (drop (length (caseIn s .table)) ts),
+        )
 
     pub releases-long : k * releaseWidth ≤ length (readReleases s ts rs)
     releases-long =
-        omega (arith, releases-read, stands .twos, ap length (read .releases-after) ∙ length-append (caseIn s .trace) (drop (length (caseIn s .trace)) rs))
+        omega (
+          arith,
+          releases-read,
+          stands .twos,
+          ap length (read .releases-after)
+              ∙ length-append (caseIn s .trace) (drop (length (caseIn s .trace)) rs),
+        )
 
     -- what the caller has in hand is the case of the text
     pub case-read : caseOf m p (take (n * taskWidth) (readTasks s ts rs)) e (take (k * releaseWidth) (readReleases s ts rs)) ≡ caseIn s
@@ -93,6 +108,7 @@ module _ (s ts rs : List ℕ) where
     case-stands = rw case-read (case-accepted s text-clear)
 
     -- and what is said of it is said of the text
-    pub case-says : (w : Wish) → caseSays w (caseOf m p (take (n * taskWidth) (readTasks s ts rs)) e (take (k * releaseWidth) (readReleases s ts rs))) ≡ textSays w s
+    pub case-says : (w : Wish) → caseSays w
+        (caseOf m p (take (n * taskWidth) (readTasks s ts rs)) e (take (k * releaseWidth) (readReleases s ts rs))) ≡ textSays w s
     unfolding textSays
     case-says w = rw (case-read, text-clear)

@@ -49,7 +49,8 @@ fn put_wish(
 ) -> usize
     requires { ⌜ printRoom ≤ length (now out) ⌝ }
     requires { ⌜ Accepted (caseOf procs policy (now table) end (now trace)) ⌝ }
-    ensures { λ r. ⌜ Printed printRoom (caseSays wish (caseOf procs policy (now (table .entry)) end (now (trace .entry)))) (now (out .entry)) (now (out .exit)) r ⌝ }
+    ensures { λ r. ⌜ Printed printRoom (caseSays wish (caseOf procs policy (now (table .entry)) end (now (trace .entry))))
+        (now (out .entry)) (now (out .exit)) r ⌝ }
 {
     match wish {
         Wish::Replay => put_report(out, procs, policy, table, end, trace),

@@ -115,7 +115,8 @@ module _ (c : Case) (t i : ℕ) (l : i < 32) where
         go false q = absurd (true≢false (sym e ∙ absent q))
 
     -- where nothing is, no record of the task changes
-    pub turn-quiet : event fin dem late ≡ false → (j : ℕ) → j < releaseCount (c .trace) → nameOf (c .trace) j ≡ suc i → recordBy c (suc t) j ≡ recordBy c t j
+    pub turn-quiet : event fin dem late ≡ false → (j : ℕ) → j < releaseCount (c .trace) → nameOf (c .trace) j ≡ suc i
+        → recordBy c (suc t) j ≡ recordBy c t j
     turn-quiet e j h q = go (isPresent (openAt c t i)) refl
       where
         none : (a b d : Bool) → event a b d ≡ false → (x : ℕ) → entry t a b d x ≡ recordOf 3 0 x

@@ -31,7 +31,8 @@ unfolding numbers
 numbers-long [] = refl
 numbers-long (r ∷ rs) = omega (arith, numbers-long rs)
 
-put3-at : (rs : List Record) (p : ℕ) (r : Record) (rest : List ℕ) → p < length rs → put3 (numbers rs ++ rest) p r ≡ numbers (set rs p r) ++ rest
+put3-at : (rs : List Record) (p : ℕ) (r : Record) (rest : List ℕ) → p < length rs
+    → put3 (numbers rs ++ rest) p r ≡ numbers (set rs p r) ++ rest
 unfolding put3 numbers
 put3-at [] p r rest h = absurd (not-suc-le-zero h)
 put3-at (x ∷ rs) zero r rest h = refl
@@ -41,7 +42,8 @@ put3-at (x ∷ rs) (suc p) r rest h =
     let e : suc p * 3 ≡ suc (suc (suc (p * 3))) = omega arith in
     rw (e2, e1, e) (ap (λ (l : List ℕ). x .verdict ∷ x .finish ∷ x .demotion ∷ l) (put3-at rs p r rest (omega arith)))
 
-demotion-at : (rs : List Record) (p : ℕ) (rest : List ℕ) → p < length rs → getD (numbers rs ++ rest) (p * 3 + 2) 0 ≡ getD rs p noRecord .demotion
+demotion-at : (rs : List Record) (p : ℕ) (rest : List ℕ) → p < length rs
+    → getD (numbers rs ++ rest) (p * 3 + 2) 0 ≡ getD rs p noRecord .demotion
 unfolding numbers
 demotion-at [] p rest h = absurd (not-suc-le-zero h)
 demotion-at (x ∷ rs) zero rest h = refl
@@ -49,7 +51,8 @@ demotion-at (x ∷ rs) (suc p) rest h =
     let e : suc p * 3 + 2 ≡ suc (suc (suc (p * 3 + 2))) = omega arith in
     rw e (demotion-at rs p rest (omega arith))
 
-finish-at : (rs : List Record) (p : ℕ) (rest : List ℕ) → p < length rs → getD (numbers rs ++ rest) (p * 3 + 1) 0 ≡ getD rs p noRecord .finish
+finish-at : (rs : List Record) (p : ℕ) (rest : List ℕ) → p < length rs
+    → getD (numbers rs ++ rest) (p * 3 + 1) 0 ≡ getD rs p noRecord .finish
 unfolding numbers
 finish-at [] p rest h = absurd (not-suc-le-zero h)
 finish-at (x ∷ rs) zero rest h = refl
@@ -97,7 +100,8 @@ noteTo t place fin dem late zero xs = xs
 noteTo t place fin dem late (suc i) xs = noteOne t place fin dem late i (noteTo t place fin dem late i xs)
 
 -- where nothing happens to any job nothing is stored
-pub noted-none : (t : ℕ) (place : List ℕ) (fin dem late : List Bool) (n : ℕ) (xs : List ℕ) → ((i : ℕ) → i < n → eventAt fin dem late i ≡ false)
+pub noted-none : (t : ℕ) (place : List ℕ) (fin dem late : List Bool) (n : ℕ) (xs : List ℕ)
+    → ((i : ℕ) → i < n → eventAt fin dem late i ≡ false)
     → noteTo t place fin dem late n xs ≡ xs
 unfolding noteTo noteOne
 noted-none t place fin dem late zero xs h = refl
@@ -155,12 +159,14 @@ module _ (c : Case) (g : Legal c) (t k : ℕ) (w : Reached (c .trace) k (suc t))
       go true e =
           let v = turn-event c t i h g k w e in
           let long : p < length (tab (mixed i) 0 n) = rw (tab-long (mixed i) 0 n) (v .within) in
-          let old : getD (tab (mixed i) 0 n) p noRecord ≡ recordBy c t p = tab-at (mixed i) n p noRecord (v .within) ∙ mixed-old i p (omega (arith, v .its)) in
+          let old : getD (tab (mixed i) 0 n) p noRecord ≡ recordBy c t p =
+          tab-at (mixed i) n p noRecord (v .within) ∙ mixed-old i p (omega (arith, v .its)) in
           let new : entry t (finishedAt c t i) (demotedAt c t i) (missedAt c (suc t) i) (recordBy c t p .demotion) ≡ mixed (suc i) p =
           sym (v .new) ∙ sym (mixed-new (suc i) p (omega (arith, v .its)))
           in
           let xs = numbers (tab (mixed i) 0 n) ++ rest in
-          let d : getD xs (p * 3 + 2) 0 ≡ recordBy c t p .demotion = demotion-at (tab (mixed i) 0 n) p rest long ∙ ap (λ (r : Record). r .demotion) old in
+          let d : getD xs (p * 3 + 2) 0 ≡ recordBy c t p .demotion =
+          demotion-at (tab (mixed i) 0 n) p rest long ∙ ap (λ (r : Record). r .demotion) old in
           ap (λ (x : ℕ). put3 xs p (entry t (finishedAt c t i) (demotedAt c t i) (missedAt c (suc t) i) x)) d ∙
           ap (put3 xs p) new ∙ put3-at (tab (mixed i) 0 n) p (mixed (suc i) p) rest long ∙
           ap (λ (l : List Record). numbers l ++ rest) (tab-set (mixed i) (mixed (suc i)) n p (v .within)
@@ -186,11 +192,13 @@ unfolding sum
 sum-head f zero = omega arith
 sum-head f (suc l) = rw (zero-add (suc l), zero-add l) (omega (arith, zero-add l, sum-head f l, ap f (zero-add l)))
 
-pub marked-in : (v : ℕ) (rs : List Record) (rest : List ℕ) → countIn (λ j. eqb (getD (numbers rs ++ rest) (j * 3) 0) v) 0 (length rs) ≡ marked v rs
+pub marked-in : (v : ℕ) (rs : List Record) (rest : List ℕ) → countIn (λ j. eqb (getD (numbers rs ++ rest) (j * 3) 0) v) 0 (length rs)
+    ≡ marked v rs
 unfolding numbers marked sum
 marked-in v [] rest = refl
 marked-in v (x ∷ rs) rest =
     sum-head (λ j. bit (eqb (getD (numbers (x ∷ rs) ++ rest) (j * 3) 0) v)) (length rs) ∙
     ap (λ (z : ℕ). bit (eqb (x .verdict) v) + z)
-    (sum-cong (λ j. bit (eqb (getD (numbers (x ∷ rs) ++ rest) (suc j * 3) 0) v)) (λ j. bit (eqb (getD (numbers rs ++ rest) (j * 3) 0) v)) 0 (length rs)
+    (sum-cong (λ j. bit (eqb (getD (numbers (x ∷ rs) ++ rest) (suc j * 3) 0) v))
+    (λ j. bit (eqb (getD (numbers rs ++ rest) (j * 3) 0) v)) 0 (length rs)
     (λ j p q. let e : suc j * 3 ≡ suc (suc (suc (j * 3))) = omega arith in rw e) ∙ marked-in v rs rest)

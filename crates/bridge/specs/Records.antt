@@ -14,7 +14,8 @@ use Rattle.rules.specs.Words.{pick, orElse, firstIn}
 use Rattle.rules.specs.Case.{Case, period, execution, deadline, releaseCount, timeOf, nameOf}
 use Rattle.rules.specs.Policies.{demoting}
 use Rattle.rules.specs.Slot.{jobAt, isPresent, isDemoted, dueOf, isDemotedNow}
-use Rattle.rules.specs.Replay.{setupIn, releasedIn, releasedAt, idleTask, stateFrom, stateAt, finishedAt, demotedAt, slotsBy, finishBy, demotionBy, verdictBy, verdictOf, Record, recordOf, jobRecord}
+use Rattle.rules.specs.Replay.{setupIn, releasedIn, releasedAt, idleTask, stateFrom, stateAt, finishedAt, demotedAt, slotsBy, finishBy}
+use Rattle.rules.specs.Replay.{demotionBy, verdictBy, verdictOf, Record, recordOf, jobRecord}
 use Rattle.rules.specs.declared.Job.{Job}
 use Rattle.rules.specs.declared.Job.the-variants.{Idle}
 use Rattle.rules.specs.declared.Task.{Task}
@@ -56,7 +57,8 @@ abbrev pub taskAt : Case → ℕ → ℕ
 taskAt c j = nameOf (c .trace) j - 1
 
 module _ (c : Case) (g : Legal c) where
-  pub good-at : (j : ℕ) → j < releaseCount (c .trace) → Good (period (c .table) (taskAt c j)) (execution (c .table) (taskAt c j)) (deadline (c .table) (taskAt c j))
+  pub good-at : (j : ℕ) → j < releaseCount (c .trace)
+      → Good (period (c .table) (taskAt c j)) (execution (c .table) (taskAt c j)) (deadline (c .table) (taskAt c j))
   good-at j h = g .good (taskAt c j) (omega (arith, g .named j h))
 
   pub sole : (j : ℕ) → j < releaseCount (c .trace) → Sole (replayOf c) (taskAt c j) (timeOf (c .trace) j)
@@ -69,7 +71,8 @@ module _ (c : Case) (g : Legal c) where
         alone = λ u p q. released-no (c .trace) _ u _ (λ k l e f. other u p q k l e f (decLt k j));
       }
     where
-      other : (u : ℕ) → timeOf (c .trace) j < u → u < timeOf (c .trace) j + deadline (c .table) (taskAt c j) → (k : ℕ) → k < releaseCount (c .trace)
+      other : (u : ℕ) → timeOf (c .trace) j < u → u < timeOf (c .trace) j + deadline (c .table) (taskAt c j) → (k : ℕ)
+          → k < releaseCount (c .trace)
           → timeOf (c .trace) k ≡ u → nameOf (c .trace) k ≡ suc (taskAt c j) → Dec (k < j) → ⊥
       other u p q k l e f (yes z) = omega (arith, g .in-order k j (omega arith) h)
       other u p q k l e f (no z) = later (eq-or-lt-of-le {n = j} {m = k} (omega arith))
@@ -160,11 +163,13 @@ module _ (c : Case) (i a : ℕ) (s : Sole (replayOf c) i a) (pos : 0 < deadline 
 
   pub future : (t : ℕ) → t < a → jobRecord c i a (suc t) ≡ jobRecord c i a t
   unfolding slotsBy
-  future t h = same-slots (suc t) t (omega arith) (lt-leb (a + deadline (c .table) i) (suc t) (omega arith) ∙ sym (lt-leb (a + deadline (c .table) i) t (omega arith)))
+  future t h = same-slots (suc t) t (omega arith) (lt-leb (a + deadline (c .table) i) (suc t) (omega arith)
+      ∙ sym (lt-leb (a + deadline (c .table) i) t (omega arith)))
 
   pub past : (t : ℕ) → a + deadline (c .table) i ≤ t → jobRecord c i a (suc t) ≡ jobRecord c i a t
   unfolding slotsBy
-  past t h = same-slots (suc t) t (omega arith) (le-leb (a + deadline (c .table) i) (suc t) (omega arith) ∙ sym (le-leb (a + deadline (c .table) i) t (omega arith)))
+  past t h = same-slots (suc t) t (omega arith) (le-leb (a + deadline (c .table) i) (suc t) (omega arith)
+      ∙ sym (le-leb (a + deadline (c .table) i) t (omega arith)))
 
   slots-at : (n : ℕ) → n ≤ deadline (c .table) i → slotsBy c i a (a + n) ≡ n
   unfolding slotsBy
@@ -206,7 +211,8 @@ module _ (c : Case) (i a : ℕ) (s : Sole (replayOf c) i a) (pos : 0 < deadline 
     unfolding demotionBy
     live-at e = go (ready c i a s n h)
       where
-        dem-next : (b : Bool) (j : Job) (d v : ℕ) → isDemoted j ≡ written d → orElse d (b && isDemotedNow j) v ≡ pick (b && isDemotedNow j) v d
+        dem-next : (b : Bool) (j : Job) (d v : ℕ) → isDemoted j ≡ written d
+            → orElse d (b && isDemotedNow j) v ≡ pick (b && isDemotedNow j) v d
         dem-next b j zero v q = refl
         dem-next false j (suc d) v q = refl
         dem-next true j (suc d) v q = rw (demotes-once j q)

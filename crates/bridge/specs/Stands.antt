@@ -8,7 +8,8 @@ use native.Mathlib.Nat.{add-zero, add-suc, zero-add, add-assoc}
 use Rattle.rules.specs.Words.{pick, firstIn}
 use Rattle.rules.specs.Case.{Case, deadline}
 use Rattle.rules.specs.Policies.{demoting}
-use Rattle.rules.specs.Slot.{Setup, TaskSet, jobAt, isPresent, isLast, present, isDemotedNow, opened, chosen, worked, workedJob, after, ran, finished, demotedNow}
+use Rattle.rules.specs.Slot.{Setup, TaskSet, jobAt, isPresent, isLast, present, isDemotedNow, opened, chosen, worked, workedJob, after, ran}
+use Rattle.rules.specs.Slot.{finished, demotedNow}
 use Rattle.rules.specs.Replay.{setupIn, releasedAt, stateFrom, stateAt, finishedAt, demotedAt, ranAt}
 use Rattle.rules.specs.declared.Job.{Job}
 use Rattle.rules.specs.declared.Run.{Run}
@@ -52,7 +53,8 @@ module _ (c : Case) (i : ℕ) (l : i < 32) (t : ℕ) where
 
   pub next-at : jobAt (stateAt c (suc t)) i ≡ pick (ranAt c t i) (workedJob (openAt c t i)) (openAt c t i)
   unfolding ranAt
-  next-at = ap (λ (r : Run). jobAt r i) (state-next c t) ∙ after-at i l (setupIn c) t (releasedAt c t) (stateAt c t) (state-full c t) ∙ rw open-at
+  next-at = ap (λ (r : Run). jobAt r i) (state-next c t) ∙ after-at i l (setupIn c) t (releasedAt c t) (stateAt c t) (state-full c t)
+      ∙ rw open-at
 
 -- ---- the replay is a course
 abbrev pub replayOf : Case → Course
@@ -94,11 +96,13 @@ module _ (c : Case) (i a : ℕ) (s : Sole (replayOf c) i a) where
 
   -- and before step 1 of each time after its release, its deadline included
   pub stands : (n : ℕ) → n < deadline (c .table) i
-      → Stand (firstIn (λ t. finishedAt c t i) a (suc n)) (firstIn (λ t. demotedAt c t i) a (suc n)) (a + deadline (c .table) i) (jobAt (stateAt c (suc (a + n))) i)
+      → Stand (firstIn (λ t. finishedAt c t i) a (suc n)) (firstIn (λ t. demotedAt c t i) a (suc n)) (a + deadline (c .table) i)
+      (jobAt (stateAt c (suc (a + n))) i)
   stands n h = rw (same-finishes, same-demotions, replay-state c (suc (a + n))) at (left-stands (replayOf c) i a s n h)
 
 -- going l + k slots is going l, then k
-pub state-split : (g : Setup) (s : ℕ → TaskSet) (a : ℕ) (r : Run) (l k : ℕ) → stateFrom g s a r (l + k) ≡ stateFrom g s (a + l) (stateFrom g s a r l) k
+pub state-split : (g : Setup) (s : ℕ → TaskSet) (a : ℕ) (r : Run) (l k : ℕ)
+    → stateFrom g s a r (l + k) ≡ stateFrom g s (a + l) (stateFrom g s a r l) k
 unfolding stateFrom
 state-split g s a r l zero = rw (add-zero l)
 state-split g s a r l (suc k) = rw (add-suc l k, ← (add-assoc a l k), state-split g s a r l k)

@@ -7,7 +7,9 @@ use native.Mathlib.Omega.{arith}
 use lib.ListN.{length, getD}
 use Rattle.rules.specs.Words.{pick}
 use Rattle.rules.specs.Policies.{demoting}
-use Rattle.rules.specs.Slot.{Setup, TaskSet, noTask, withJob, jobAt, leftOf, dueOf, eachTask, isMissed, judgedTask, judged, releasedJob, releasedTask, joinedTask, joined, isDemotedNow, demotedTask, demoted, contentionFree, loweredJob, loweredTask, lowered, readied, opened, chosen, workedJob, workedTask, worked, after, ran}
+use Rattle.rules.specs.Slot.{Setup, TaskSet, noTask, withJob, jobAt, leftOf, dueOf, eachTask, isMissed, judgedTask, judged, releasedJob}
+use Rattle.rules.specs.Slot.{releasedTask, joinedTask, joined, isDemotedNow, demotedTask, demoted, contentionFree, loweredJob, loweredTask}
+use Rattle.rules.specs.Slot.{lowered, readied, opened, chosen, workedJob, workedTask, worked, after, ran}
 use Rattle.rules.specs.declared.Job.{Job}
 use Rattle.rules.specs.declared.Job.the-variants.{Idle, Demoted}
 use Rattle.rules.specs.declared.Task.{Task}
@@ -103,7 +105,8 @@ module _ (i : ℕ) (l : i < 32) where
   unfolding joined
   readied-at g now s r h =
       ap (λ (t : Task). t .job) (each-at (joinedTask g now s) (judged now r) (judged-full now r h)) ∙
-      pick-job (s i) (releasedTask g now i (getD (judged now r .tasks) i noTask)) (getD (judged now r .tasks) i noTask) ∙ ap (pick (s i) (releasedJob g now i)) (judged-at now r h)
+      pick-job (s i) (releasedTask g now i (getD (judged now r .tasks) i noTask)) (getD (judged now r .tasks) i noTask)
+      ∙ ap (pick (s i) (releasedJob g now i)) (judged-at now r h)
 
   pub demoted-at : (g : Setup) (r : Run) → Full r → jobAt (demoted g r) i ≡ demotedJob (demoting (g .policy)) (jobAt r i)
   unfolding demoted

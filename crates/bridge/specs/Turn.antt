@@ -115,7 +115,8 @@ module _ (c : Case) (g : Legal c) (t k : ℕ) (w : Reached (c .trace) k (suc t))
         go (none f) = absurd (true≢false (sym e ∙ idle-open (never-released c i l t
             (λ u x. released-no (c .trace) _ u i (λ j h q r. early u x j h q r (decLt j k))))))
           where
-            early : (u : ℕ) → u ≤ t → (j : ℕ) → j < releaseCount (c .trace) → timeOf (c .trace) j ≡ u → nameOf (c .trace) j ≡ suc i → Dec (j < k) → ⊥
+            early : (u : ℕ) → u ≤ t → (j : ℕ) → j < releaseCount (c .trace) → timeOf (c .trace) j ≡ u → nameOf (c .trace) j ≡ suc i
+                → Dec (j < k) → ⊥
             early u x j h q r (yes y) = f j y r
             early u x j h q r (no y) = omega (arith, w .behind j (omega arith) h)
         go (last b q f) =
@@ -140,7 +141,8 @@ module _ (c : Case) (g : Legal c) (t k : ℕ) (w : Reached (c .trace) k (suc t))
                 let s = rw z at (sole c g p h) in
                 let m = rw z at (good-at c g p h) in
                 let d : timeOf (c .trace) p + (t - timeOf (c .trace) p) ≡ t = omega arith in
-                let v = live-at c i (timeOf (c .trace) p) s (omega (arith, m .some, m .fits)) (t - timeOf (c .trace) p) (omega arith) (rw d e) in
+                let v = live-at c i (timeOf (c .trace) p) s (omega (arith, m .some, m .fits)) (t - timeOf (c .trace) p) (omega arith)
+                (rw d e) in
                 let u = rw d at v in
                 record {
                   within = h;
@@ -157,7 +159,8 @@ module _ (c : Case) (g : Legal c) (t k : ℕ) (w : Reached (c .trace) k (suc t))
 
                 fresh-record : taskAt c p ≡ i → dueOf (openAt c t i) ≡ timeOf (c .trace) p + deadline (c .table) i
                     → jobRecord c i (timeOf (c .trace) p) (suc t) ≡
-                    noted t (finishedAt c t i) (demotedAt c t i) (timeOf (c .trace) p + deadline (c .table) i) (demotionBy c i (timeOf (c .trace) p) t)
+                    noted t (finishedAt c t i) (demotedAt c t i) (timeOf (c .trace) p + deadline (c .table) i)
+                    (demotionBy c i (timeOf (c .trace) p) t)
                     → recordBy c (suc t) p ≡ noted t (finishedAt c t i) (demotedAt c t i) (dueOf (openAt c t i)) (recordBy c t p .demotion)
                 fresh-record z a b = rw (z, a) b
 

@@ -11,9 +11,12 @@ use Rattle.rules.specs.Case.{Case, caseOf, execution, releaseCount}
 use Rattle.rules.specs.Policies.{edf, edfCf}
 use Rattle.rules.specs.Words.{sum, firstIn, tab, mapFrom}
 use Rattle.rules.specs.Counts.{availability, availabilities, count, freeCount}
-use Rattle.rules.specs.Slot.{present, judged, joined, demoted, jobsNow, contentionFree, lowered, opened, jobBefore, rank, chosen, worked, after, ran, finished, missed, demotedNow, setNumber}
-use Rattle.rules.specs.Replay.{releasedIn, stateFrom, stateAt, ranAt, finishedAt, demotedAt, slotsBy, finishBy, demotionBy, verdictBy, recordBy, marked, numbers, Record, recordOf, records}
-use Rattle.rules.specs.Refusals.{orNext, firstOf, procsFault, policyFault, tableFault, taskFault, endFault, traceFault, inOrder, lastBefore, releaseFault, roomFault, slotFault, caseFault, countsFault, replayFault, runningFault}
+use Rattle.rules.specs.Slot.{present, judged, joined, demoted, jobsNow, contentionFree, lowered, opened, jobBefore, rank, chosen, worked}
+use Rattle.rules.specs.Slot.{after, ran, finished, missed, demotedNow, setNumber}
+use Rattle.rules.specs.Replay.{releasedIn, stateFrom, stateAt, ranAt, finishedAt, demotedAt, slotsBy, finishBy, demotionBy, verdictBy}
+use Rattle.rules.specs.Replay.{recordBy, marked, numbers, Record, recordOf, records}
+use Rattle.rules.specs.Refusals.{orNext, firstOf, procsFault, policyFault, tableFault, taskFault, endFault, traceFault, inOrder, lastBefore}
+use Rattle.rules.specs.Refusals.{releaseFault, roomFault, slotFault, caseFault, countsFault, replayFault, runningFault}
 use Rattle.rules.specs.Answers.{Answer, result, settled, kept}
 use Rattle.rules.specs.Calls.{countsAnswer, countsRoom, roomAfter, replayAnswer, replayRoom, runningAnswer}
 
@@ -90,7 +93,8 @@ nine = 9 ∷ 9 ∷ 9 ∷ six
 -- ---- the list
 -- availability for T 10, D 4 at l = 0, 1, 4, 9, 10, 11, 14, 20
 abbrev pub availability-10-4 : Entry
-availability-10-4 = entry (plain (map (availability 10 4) (0 ∷ 1 ∷ 4 ∷ 9 ∷ 10 ∷ 11 ∷ 14 ∷ 20 ∷ []))) (plain (0 ∷ 1 ∷ 4 ∷ 4 ∷ 4 ∷ 5 ∷ 8 ∷ 8 ∷ []))
+availability-10-4 = entry (plain (map (availability 10 4) (0 ∷ 1 ∷ 4 ∷ 9 ∷ 10 ∷ 11 ∷ 14 ∷ 20 ∷ [])))
+    (plain (0 ∷ 1 ∷ 4 ∷ 4 ∷ 4 ∷ 5 ∷ 8 ∷ 8 ∷ []))
 
 -- set A, m = 2: free counts; the sets of slot 0 under EDF and EDF-CF; under EDF task 3 missed, totals 2, 1, 0
 abbrev pub counts-A : Entry
@@ -136,7 +140,8 @@ two-tasks policy = entry (replaying (two policy) six) (leaving (2 ∷ 0 ∷ 0 �
 
 abbrev pub byHand : List Entry
 byHand =
-    availability-10-4 ∷ counts-A ∷ slot-0-A-edf ∷ slot-0-A-edf-cf ∷ A-edf ∷ A-edf-cf ∷ counts-B ∷ B-10 edf ∷ B-10 edfCf ∷ B-9 edf ∷ B-9 edfCf ∷
+    availability-10-4 ∷ counts-A ∷ slot-0-A-edf ∷ slot-0-A-edf-cf ∷ A-edf ∷ A-edf-cf ∷ counts-B ∷ B-10 edf ∷ B-10 edfCf ∷ B-9 edf
+    ∷ B-9 edfCf ∷
     counts-one ∷ execution-one ∷ one-task ∷ two-tasks edf ∷ two-tasks edfCf ∷ []
 
 -- ---- each entry, computed
@@ -152,7 +157,8 @@ unfolding replayAnswer replayRoom roomAfter
 answered c rs room e = rw (← e) refl
 
 -- the entries without a replay
-asked : Stands availability-10-4 × Stands counts-A × Stands slot-0-A-edf × Stands slot-0-A-edf-cf × Stands counts-B × Stands counts-one × Stands execution-one
+asked : Stands availability-10-4 × Stands counts-A × Stands slot-0-A-edf × Stands slot-0-A-edf-cf × Stands counts-B × Stands counts-one
+    × Stands execution-one
 unfolding sum tab mapFrom availability availabilities count freeCount
     present judged joined demoted jobsNow contentionFree lowered opened jobBefore rank chosen worked after ran setNumber
     releasedIn stateFrom stateAt ranAt
@@ -178,7 +184,8 @@ known = (refl, refl, refl, refl, refl, refl, refl, refl, refl)
 
 -- what the replay answers and leaves
 replayed :
-    Stands A-edf × Stands A-edf-cf × Stands (B-10 edf) × Stands (B-10 edfCf) × Stands (B-9 edf) × Stands (B-9 edfCf) × Stands one-task × Stands (two-tasks edf) × Stands (two-tasks edfCf)
+    Stands A-edf × Stands A-edf-cf × Stands (B-10 edf) × Stands (B-10 edfCf) × Stands (B-9 edf) × Stands (B-9 edfCf) × Stands one-task
+    × Stands (two-tasks edf) × Stands (two-tasks edfCf)
 unfolding marked numbers
     orNext firstOf procsFault policyFault tableFault taskFault endFault traceFault inOrder lastBefore releaseFault roomFault
     caseFault replayFault settled kept
@@ -200,4 +207,9 @@ also e es = ap₂ _∷_ e es
 
 pub all-stand : map (λ (e : Entry). e .given) byHand ≡ map (λ (e : Entry). e .said) byHand
 all-stand =
-    also (asked .0) (also (asked .1) (also (asked .2) (also (asked .3) (also (replayed .0) (also (replayed .1) (also (asked .4) (also (replayed .2) (also (replayed .3) (also (replayed .4) (also (replayed .5) (also (asked .5) (also (asked .6) (also (replayed .6) (also (replayed .7) (also (replayed .8) refl)))))))))))))))
+    also (asked .0) (also (asked .1) (also (asked .2)
+    (also (asked .3) (also (replayed .0)
+    (also (replayed .1) (also (asked .4)
+    (also (replayed .2) (also (replayed .3)
+    (also (replayed .4) (also (replayed .5)
+    (also (asked .5) (also (asked .6) (also (replayed .6) (also (replayed .7) (also (replayed .8) refl)))))))))))))))

@@ -37,7 +37,8 @@ pub fn release_fault(
     j: usize,
     last: &[u32; MAX_TASKS],
 ) -> Fault
-    requires { ⌜ Sound (now table) × (j < releaseCount (now trace)) × (releaseCount (now trace) ≤ maxReleases) × (now last ≡ lasts (now trace) j) × Early (now trace) j ⌝ }
+    requires { ⌜ Sound (now table) × (j < releaseCount (now trace)) × (releaseCount (now trace) ≤ maxReleases)
+        × (now last ≡ lasts (now trace) j) × Early (now trace) j ⌝ }
     ensures { λ r. ⌜ r ≡ releaseFault (now (table .entry)) end (now (trace .entry)) j ⌝ }
 {
     let time = cases::time_of(trace, j);

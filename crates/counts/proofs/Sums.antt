@@ -14,7 +14,8 @@ pub avail-small : (l t d : ℕ) → 1 ≤ t → d ≤ maxPeriod → l ≤ maxPer
 avail-small l t d p q r = omega (arith, mul-le-mul-left (l / t) p, mul-le-mul-left (l / t) q, div-add-mod' l t)
 
 -- one more task, by T and D as they were read
-pub added : (ts : List ℕ) (l i s a T D : ℕ) → s ≡ sum (λ i. availability (period ts i) (deadline ts i) l) 0 i → T ≡ period ts i → D ≡ deadline ts i → a ≡ availability T D l
+pub added : (ts : List ℕ) (l i s a T D : ℕ) → s ≡ sum (λ i. availability (period ts i) (deadline ts i) l) 0 i → T ≡ period ts i
+    → D ≡ deadline ts i → a ≡ availability T D l
     → s + a ≡ sum (λ i. availability (period ts i) (deadline ts i) l) 0 (i + 1)
 unfolding sum
 added ts l i s a T D p q r e = rw (add-one i, zero-add i) (ap₂ _+_ p (e ∙ rw (q, r)))

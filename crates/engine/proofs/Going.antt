@@ -14,8 +14,10 @@ use Rattle.rules.specs.declared.Run.{Run}
 use Rattle.rules.specs.Words.{tab, firstIn}
 use Rattle.rules.specs.Case.{Case, taskCount, deadline, releaseCount, timeOf, nameOf}
 use Rattle.rules.specs.Policies.{demoting}
-use Rattle.rules.specs.Slot.{TaskSet, Setup, jobAt, isMissed, isDemotedNow, judged, joinedTask, joined, readied, demoted, lowered, opened, after, ran, finished, missed, demotedNow, jobsNow}
-use Rattle.rules.specs.Replay.{setupIn, releasedIn, releasedAt, fresh, stateFrom, stateAt, ranAt, finishedAt, missedAt, demotedAt, slotsBy, finishBy, demotionBy, verdictBy, recordBy, numbers}
+use Rattle.rules.specs.Slot.{TaskSet, Setup, jobAt, isMissed, isDemotedNow, judged, joinedTask, joined, readied, demoted, lowered, opened}
+use Rattle.rules.specs.Slot.{after, ran, finished, missed, demotedNow, jobsNow}
+use Rattle.rules.specs.Replay.{setupIn, releasedIn, releasedAt, fresh, stateFrom, stateAt, ranAt, finishedAt, missedAt, demotedAt, slotsBy}
+use Rattle.rules.specs.Replay.{finishBy, demotionBy, verdictBy, recordBy, numbers}
 use Rattle.lists.specs.Lists.{mapFrom-cong, tab-long, tab-at, tab-cong}
 use Rattle.bridge.specs.Steps.{Full, judged-full}
 use Rattle.bridge.specs.Stands.{state-full, state-next}
@@ -81,7 +83,8 @@ module _ (g : Setup) (now : ℕ) (s u : TaskSet) (r : Run) (f : Full r) (h : (i 
   unfolding demotedNow
   demoted-same i = ap (λ (x : Run). demoting (g .policy) && isDemotedNow (jobAt x i)) readied-same
 
-  stepped-same : (run : Run) (n : ℕ) (ms ds rs fs ls : List Bool) → Stepped g now s r run n ms ds rs fs ls → Stepped g now u r run n ms ds rs fs ls
+  stepped-same : (run : Run) (n : ℕ) (ms ds rs fs ls : List Bool) → Stepped g now s r run n ms ds rs fs ls
+      → Stepped g now u r run n ms ds rs fs ls
   unfolding missed
   stepped-same run n ms ds rs fs ls q = record {
     run = q .run ∙ after-same;
@@ -99,7 +102,8 @@ module _ (c : Case) (g : Legal c) (clock : ℕ) (more : clock < c .end) (rel : L
   rel-at i h = rw re (tab-at (releasedIn (c .trace) (releaseCount (c .trace)) clock) 32 i false h)
 
   -- what the slot is asked for is there
-  some-release : (rs : List ℕ) (n t i : ℕ) → ((j : ℕ) → j < n → nameOf rs j ≤ taskCount (c .table)) → releasedIn rs n t i ≡ true → i < taskCount (c .table)
+  some-release : (rs : List ℕ) (n t i : ℕ) → ((j : ℕ) → j < n → nameOf rs j ≤ taskCount (c .table)) → releasedIn rs n t i ≡ true
+      → i < taskCount (c .table)
   unfolding releasedIn
   some-release rs zero t i f e = absurd (false≢true e)
   some-release rs (suc n) t i f e = go (releasedIn rs n t i) refl (some-release rs n t i (λ j h. f j (omega arith)))
@@ -117,13 +121,16 @@ module _ (c : Case) (g : Legal c) (clock : ℕ) (more : clock < c .end) (rel : L
     where
       go : Dec (i < 32) → i < taskCount (c .table)
       go (yes h) = some-release (c .trace) (releaseCount (c .trace)) clock i (λ j l. g .named j l .1) (sym (rel-at i h) ∙ e)
-      go (no h) = absurd (false≢true (sym (List·getD-eq-default rel false {n = i} (rw (re, tab-long (releasedIn (c .trace) (releaseCount (c .trace)) clock) 0 32) (omega arith))) ∙ e))
+      go (no h) =
+          absurd (false≢true (sym (List·getD-eq-default rel false {n =
+          i} (rw (re, tab-long (releasedIn (c .trace) (releaseCount (c .trace)) clock) 0 32) (omega arith))) ∙ e))
 
   pub needed : (counts : List ℕ) → Counts (c .procs) (c .table) counts → Needed (c .procs) clock (c .table) counts rel
   needed counts q = record {
     some = g .procs-some;
     early = omega (arith, g .end-small);
-    startable = λ i e. (let m = g .good i (in-table i e) in record { inside = omega (arith, in-table i e); short = omega (arith, m .within, m .small) });
+    startable = λ i e. (let m = g .good i (in-table i e) in
+        record { inside = omega (arith, in-table i e); short = omega (arith, m .within, m .small) });
     counted = λ i e. q i (in-table i e);
   }
 
@@ -131,13 +138,15 @@ module _ (c : Case) (g : Legal c) (clock : ℕ) (more : clock < c .end) (rel : L
       (q : Stepped (setupIn c) clock (members rel) run run′ jobs ms ds rs fs ls) where
     -- it is the slot of the case
     same-step : Stepped (setupIn c) clock (releasedAt c clock) (stateAt c clock) run′ jobs ms ds rs fs ls
-    same-step = stepped-same (setupIn c) clock (members rel) (releasedAt c clock) (stateAt c clock) (state-full c clock) rel-at run′ jobs ms ds rs fs ls (rw e at q)
+    same-step = stepped-same (setupIn c) clock (members rel) (releasedAt c clock) (stateAt c clock)
+        (state-full c clock) rel-at run′ jobs ms ds rs fs ls (rw e at q)
 
     next-run : run′ ≡ stateAt c (suc clock)
     next-run = same-step .run ∙ sym (state-next c clock)
 
     -- the walk after the slot, and the set that ran
-    pub turned : (place : List ℕ) (next : ℕ) → Reached (c .trace) next (suc clock) → place ≡ places (c .trace) next → Turned c clock run′ place next jobs rs
+    pub turned : (place : List ℕ) (next : ℕ) → Reached (c .trace) next (suc clock) → place ≡ places (c .trace) next
+        → Turned c clock run′ place next jobs rs
     unfolding ranAt
     turned place next k p = record {
       walks = record { at-run = next-run; reached = k; at-place = p; idle = λ z. none-left c clock (sym (same-step .jobs) ∙ z) };
@@ -161,54 +170,65 @@ unfolding recordBy verdictBy finishBy demotionBy slotsBy firstIn
 open-at-0 c g j h =
     let m = good-at c g j h in
     let z : min (deadline (c .table) (taskAt c j)) (0 - timeOf (c .trace) j) ≡ 0 = omega arith in
-    let l : leb (timeOf (c .trace) j + deadline (c .table) (taskAt c j)) 0 ≡ false = lt-leb (timeOf (c .trace) j + deadline (c .table) (taskAt c j)) 0 (omega (arith, m .some, m .fits)) in
+    let l : leb (timeOf (c .trace) j + deadline (c .table) (taskAt c j)) 0 ≡ false =
+    lt-leb (timeOf (c .trace) j + deadline (c .table) (taskAt c j)) 0 (omega (arith, m .some, m .fits)) in
     rw (z, l)
 
 records-long : (c : Case) (t : ℕ) → length (numbers (tab (recordBy c t) 0 (releaseCount (c .trace)))) ≡ releaseCount (c .trace) * 3
 records-long c t =
-    numbers-long (tab (recordBy c t) 0 (releaseCount (c .trace))) ∙ ap (λ (k : ℕ). k * 3) (tab-long (recordBy c t) 0 (releaseCount (c .trace)))
+    numbers-long (tab (recordBy c t) 0 (releaseCount (c .trace)))
+    ∙ ap (λ (k : ℕ). k * 3) (tab-long (recordBy c t) 0 (releaseCount (c .trace)))
 
 -- what is past the records stays, so that the records of any time go into the same room
 pub same-room : (c : Case) (t u : ℕ) (xs out : List ℕ) → out ≡ roomAt c t xs → roomAt c u out ≡ roomAt c u xs
 same-room c t u xs out e =
     ap (λ l. numbers (tab (recordBy c u) 0 (releaseCount (c .trace))) ++ l)
-    (rw e (drop-at (numbers (tab (recordBy c t) 0 (releaseCount (c .trace)))) (drop (releaseCount (c .trace) * 3) xs) (releaseCount (c .trace) * 3) (records-long c t)))
+    (rw e (drop-at (numbers (tab (recordBy c t) 0 (releaseCount (c .trace)))) (drop (releaseCount (c .trace) * 3) xs)
+    (releaseCount (c .trace) * 3) (records-long c t)))
 
 -- the room that holds the open records holds those of time 0
-pub room-open : (c : Case) → Legal c → (xs out : List ℕ) → out ≡ numbers (tab (λ j. openRecord) 0 (releaseCount (c .trace))) ++ drop (releaseCount (c .trace) * 3) xs
+pub room-open : (c : Case) → Legal c → (xs out : List ℕ) → out ≡ numbers (tab (λ j. openRecord) 0 (releaseCount (c .trace)))
+    ++ drop (releaseCount (c .trace) * 3) xs
     → out ≡ roomAt c 0 xs
 room-open c g xs out e =
-    e ∙ ap (λ l. numbers l ++ drop (releaseCount (c .trace) * 3) xs) (tab-cong (λ j. openRecord) (recordBy c 0) 0 _ (λ j p q. sym (open-at-0 c g j (omega arith))))
+    e ∙ ap (λ l. numbers l ++ drop (releaseCount (c .trace) * 3) xs)
+    (tab-cong (λ j. openRecord) (recordBy c 0) 0 _ (λ j p q. sym (open-at-0 c g j (omega arith))))
 
-module _ (c : Case) (g : Legal c) (clock : ℕ) (out : List ℕ) (e : out ≡ roomAt c clock out) (next : ℕ) (w : Reached (c .trace) next (suc clock))
+module _ (c : Case) (g : Legal c) (clock : ℕ) (out : List ℕ) (e : out ≡ roomAt c clock out) (next : ℕ)
+    (w : Reached (c .trace) next (suc clock))
     (place : List ℕ) (fs ds ls : List Bool) (o : Handed c clock next place fs ds ls) where
   pub roomy : Roomy place fs ds ls (length out)
   roomy i h x =
       let l = turn-event c clock i h g next w (rw (o .at-fin i h, o .at-dem i h, o .at-late i h) at x) in
-      let a = ap length e ∙ length-append (numbers (tab (recordBy c clock) 0 (releaseCount (c .trace)))) (drop (releaseCount (c .trace) * 3) out) in
+      let a = ap length e ∙ length-append (numbers (tab (recordBy c clock) 0 (releaseCount (c .trace))))
+      (drop (releaseCount (c .trace) * 3) out) in
       rw (o .at-place i h) (omega (arith, l .within, a, records-long c clock))
 
   -- what is noted of the slot brings the records to the next time
   pub room-next : (out′ : List ℕ) → out′ ≡ noteTo clock place fs ds ls 32 out → out′ ≡ roomAt c (suc clock) out
-  room-next out′ n = n ∙ ap (noteTo clock place fs ds ls 32) e ∙ noted-all c g clock next w place fs ds ls o (drop (releaseCount (c .trace) * 3) out)
+  room-next out′ n = n ∙ ap (noteTo clock place fs ds ls 32) e
+      ∙ noted-all c g clock next w place fs ds ls o (drop (releaseCount (c .trace) * 3) out)
 
 -- a slot that rests changes no record
 pub room-still : (c : Case) (g : Legal c) (clock : ℕ) (run : Run) (place : List ℕ) (next jobs : ℕ) → Walking c clock run place next jobs
     → Rests (c .trace) next jobs clock → (xs : List ℕ) → roomAt c clock xs ≡ roomAt c (suc clock) xs
 room-still c g clock run place next jobs v r xs =
     ap (λ l. numbers l ++ drop (releaseCount (c .trace) * 3) xs)
-    (tab-cong (recordBy c clock) (recordBy c (suc clock)) 0 _ (λ j p q. sym (still-records c g clock run place next jobs v r j (omega arith))))
+    (tab-cong (recordBy c clock) (recordBy c (suc clock)) 0 _
+    (λ j p q. sym (still-records c g clock run place next jobs v r j (omega arith))))
 
 -- ---- the loop
 -- before the slot at `clock`: how the walk stands, the set that ran last, and the records where they are noted
-pub record Going (c : Case) (until : ℕ) (noting : Bool) (xs : List ℕ) (clock : ℕ) (run : Run) (place : List ℕ) (next jobs : ℕ) (rs : List Bool) (out : List ℕ) : Type 0 where
+pub record Going (c : Case) (until : ℕ) (noting : Bool) (xs : List ℕ) (clock : ℕ) (run : Run) (place : List ℕ) (next jobs : ℕ)
+    (rs : List Bool) (out : List ℕ) : Type 0 where
   pub within : clock ≤ until
   pub walks : Walking c clock run place next jobs
   pub ran : LastRan c clock rs
   pub long : length out ≡ length xs
   pub noted : noting ≡ true → out ≡ roomAt c clock xs
 
-module _ (c : Case) (until : ℕ) (noting : Bool) (xs : List ℕ) (clock : ℕ) (run : Run) (place : List ℕ) (next jobs : ℕ) (rs : List Bool) (out : List ℕ)
+module _ (c : Case) (until : ℕ) (noting : Bool) (xs : List ℕ) (clock : ℕ) (run : Run) (place : List ℕ) (next jobs : ℕ) (rs : List Bool)
+    (out : List ℕ)
     (v : Going c until noting xs clock run place next jobs rs out) where
   -- the room as it is holds the records
   pub noted-here : noting ≡ true → out ≡ roomAt c clock out
@@ -216,8 +236,10 @@ module _ (c : Case) (until : ℕ) (noting : Bool) (xs : List ℕ) (clock : ℕ) 
 
   module _ (more : clock < until) where
     -- after a slot
-    pub going-more : (run′ : Run) (place′ : List ℕ) (next′ jobs′ : ℕ) (rs′ : List Bool) (out′ : List ℕ) → Turned c clock run′ place′ next′ jobs′ rs′
-        → length out′ ≡ length out → (noting ≡ true → out′ ≡ roomAt c (suc clock) out) → Going c until noting xs (clock + 1) run′ place′ next′ jobs′ rs′ out′
+    pub going-more : (run′ : Run) (place′ : List ℕ) (next′ jobs′ : ℕ) (rs′ : List Bool) (out′ : List ℕ)
+        → Turned c clock run′ place′ next′ jobs′ rs′
+        → length out′ ≡ length out → (noting ≡ true → out′ ≡ roomAt c (suc clock) out)
+        → Going c until noting xs (clock + 1) run′ place′ next′ jobs′ rs′ out′
     going-more run′ place′ next′ jobs′ rs′ out′ t l n = rw (add-one clock) (record {
       within = omega arith;
       walks = t .walks;
@@ -227,7 +249,8 @@ module _ (c : Case) (until : ℕ) (noting : Bool) (xs : List ℕ) (clock : ℕ) 
     })
 
     -- a slot that rests is passed over, and none runs in it
-    pub going-on : Legal c → Rests (c .trace) next jobs clock → Going c until noting xs (clock + 1) run place next jobs (tab (λ i. false) 0 32) out
+    pub going-on : Legal c → Rests (c .trace) next jobs clock
+        → Going c until noting xs (clock + 1) run place next jobs (tab (λ i. false) 0 32) out
     going-on g r = rw (add-one clock) (record {
       within = omega arith;
       walks = still-walking c g clock run place next jobs (v .walks) r;

@@ -40,10 +40,12 @@ module _ (s : TaskSet) (i power number more : ℕ) (h : i < 32) (w : Doubling s 
         so-far = rw (add-one i, zero-add i) (omega (arith, w .so-far, e));
       }
 
-pub doubling-yes : (s : TaskSet) (i power number : ℕ) → i < 32 → Doubling s i power number → s i ≡ true → Doubling s (i + 1) (power * 2) (number + power)
+pub doubling-yes : (s : TaskSet) (i power number : ℕ) → i < 32 → Doubling s i power number → s i ≡ true
+    → Doubling s (i + 1) (power * 2) (number + power)
 doubling-yes s i power number h w e = doubling-more s i power number power h w (omega arith) (w .is ∙ rw (e, one-mul))
 
-pub doubling-no : (s : TaskSet) (i power number : ℕ) → i < 32 → Doubling s i power number → s i ≡ false → Doubling s (i + 1) (power * 2) number
+pub doubling-no : (s : TaskSet) (i power number : ℕ) → i < 32 → Doubling s i power number → s i ≡ false
+    → Doubling s (i + 1) (power * 2) number
 doubling-no s i power number h w e =
     let z : number + 0 ≡ number = omega arith in
     rw z at (doubling-more s i power number 0 h w (omega arith) (rw (e, zero-mul)))

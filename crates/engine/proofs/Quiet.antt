@@ -14,7 +14,8 @@ use Rattle.rules.specs.declared.Run.{Run}
 use Rattle.rules.specs.Words.{pick, bit, sum, countIn, tab}
 use Rattle.rules.specs.Case.{Case, releaseCount, timeOf}
 use Rattle.rules.specs.Policies.{demoting}
-use Rattle.rules.specs.Slot.{Setup, TaskSet, noTask, runOf, withJob, jobAt, isPresent, present, eachTask, judged, joined, demotedTask, demoted, readied, jobsNow, contentionFree, loweredTask, lowered, opened, chosen, workedTask, worked, after}
+use Rattle.rules.specs.Slot.{Setup, TaskSet, noTask, runOf, withJob, jobAt, isPresent, present, eachTask, judged, joined, demotedTask}
+use Rattle.rules.specs.Slot.{demoted, readied, jobsNow, contentionFree, loweredTask, lowered, opened, chosen, workedTask, worked, after}
 use Rattle.rules.specs.Replay.{setupIn, releasedAt, stateAt, ranAt, recordBy}
 use Rattle.lists.specs.Lists.{tab-cong}
 use Rattle.bridge.specs.Steps.{Full, demotedJob, readied-at, demoted-at, readied-full, lowers}
@@ -39,7 +40,8 @@ none-counted p (suc n) i e h = go (λ l. none-counted p n i (omega arith) l) (eq
 
 -- ---- a run of idle tasks
 -- a change that leaves each task as it is leaves the run
-still : (f : ℕ → Task → Task) (r : Run) → Full r → ((i : ℕ) → i < 32 → f i (getD (r .tasks) i noTask) ≡ getD (r .tasks) i noTask) → eachTask f r ≡ r
+still : (f : ℕ → Task → Task) (r : Run) → Full r → ((i : ℕ) → i < 32 → f i (getD (r .tasks) i noTask) ≡ getD (r .tasks) i noTask)
+    → eachTask f r ≡ r
 still f r full h = ap runOf (same-each f (λ i t. t) (r .tasks) noTask (λ i l. h i (omega arith)) ∙ keep-all (r .tasks))
 
 module _ (g : Setup) (now : ℕ) (s : TaskSet) (r : Run) (full : Full r) (none : (i : ℕ) → i < 32 → s i ≡ false)
@@ -97,12 +99,16 @@ module _ (c : Case) (t : ℕ) (n : jobsNow (demoted (setupIn c) (readied (setupI
       let full = state-full c t in
       let R = readied (setupIn c) t (releasedAt c t) (stateAt c t) in
       let a : isPresent (jobAt (demoted (setupIn c) R) i) ≡ false = none-counted (present (demoted (setupIn c) R)) 32 i n l in
-      let d = demoted-at i l (setupIn c) R (readied-full _ _ _ _ full) ∙ ap (demotedJob (demoting (c .policy))) (readied-at i l (setupIn c) t (releasedAt c t) (stateAt c t) full) in
-      let x : isPresent (readyAt c t i) ≡ false = sym (kept-demoted (demoting (c .policy)) (readyAt c t i) .there) ∙ sym (ap isPresent d) ∙ a in
-      let o : isPresent (openAt c t i) ≡ false = kept-opened (demoting (c .policy)) (lowers (setupIn c) t (releasedAt c t) (stateAt c t)) (readyAt c t i) .there ∙ x in
+      let d = demoted-at i l (setupIn c) R (readied-full _ _ _ _ full)
+      ∙ ap (demotedJob (demoting (c .policy))) (readied-at i l (setupIn c) t (releasedAt c t) (stateAt c t) full) in
+      let x : isPresent (readyAt c t i) ≡ false = sym (kept-demoted (demoting (c .policy)) (readyAt c t i) .there) ∙ sym (ap isPresent d)
+      ∙ a in
+      let o : isPresent (openAt c t i) ≡ false =
+      kept-opened (demoting (c .policy)) (lowers (setupIn c) t (releasedAt c t) (stateAt c t)) (readyAt c t i) .there ∙ x in
       next-at c i l t ∙ rw (ran-present c i l t o) (idle-now (openAt c t i) o)
 
-module _ (c : Case) (g : Legal c) (t : ℕ) (run : Run) (place : List ℕ) (next jobs : ℕ) (v : Walking c t run place next jobs) (r : Rests (c .trace) next jobs t) where
+module _ (c : Case) (g : Legal c) (t : ℕ) (run : Run) (place : List ℕ) (next jobs : ℕ) (v : Walking c t run place next jobs)
+    (r : Rests (c .trace) next jobs t) where
   after-now : (j : ℕ) → next ≤ j → j < releaseCount (c .trace) → suc t ≤ timeOf (c .trace) j
   after-now j h l =
       let first : next < releaseCount (c .trace) = omega arith in

@@ -49,7 +49,8 @@ released-old : (rs : List ℕ) (k t i : ℕ) → (timeOf rs k ≡ t → nameOf r
 unfolding releasedIn
 released-old rs k t i h = rw (no (eqb (timeOf rs k) t) refl (eqb (nameOf rs k) (suc i)) refl) (or-false (releasedIn rs k t i))
   where
-    no : (a : Bool) → eqb (timeOf rs k) t ≡ a → (b : Bool) → eqb (nameOf rs k) (suc i) ≡ b → (eqb (timeOf rs k) t && eqb (nameOf rs k) (suc i)) ≡ false
+    no : (a : Bool) → eqb (timeOf rs k) t ≡ a → (b : Bool) → eqb (nameOf rs k) (suc i) ≡ b
+        → (eqb (timeOf rs k) t && eqb (nameOf rs k) (suc i)) ≡ false
     no true p true q = absurd (h (eqb-true _ _ p) (eqb-true _ _ q))
     no true p false q = rw (p, q)
     no false p b q = rw p
@@ -62,7 +63,8 @@ place-old : (rs : List ℕ) (k name : ℕ) → (nameOf rs k ≡ name → ⊥) �
 unfolding lastPlace
 place-old rs k name h = rw (ne-eqb (nameOf rs k) name h)
 
-pub taking-more : (rs : List ℕ) (clock k v : ℕ) (place : List ℕ) (released : List Bool) → Orderly rs → k < releaseCount rs → timeOf rs k ≡ clock
+pub taking-more : (rs : List ℕ) (clock k v : ℕ) (place : List ℕ) (released : List Bool) → Orderly rs → k < releaseCount rs
+    → timeOf rs k ≡ clock
     → v ≡ nameOf rs k - 1 → Taking rs clock k place released → Taking rs clock (k + 1) (set place v k) (set released v true)
 taking-more rs clock k v place released u h e z w =
     let n = u .named k h in
@@ -85,18 +87,21 @@ taking-more rs clock k v place released u h e z w =
     early j (inr x) = w .early j x
 
 -- no release of the time from k on
-released-rest : (rs : List ℕ) (k t i d : ℕ) → ((j : ℕ) → k ≤ j → j < k + d → timeOf rs j ≡ t → ⊥) → releasedIn rs (k + d) t i ≡ releasedIn rs k t i
+released-rest : (rs : List ℕ) (k t i d : ℕ) → ((j : ℕ) → k ≤ j → j < k + d → timeOf rs j ≡ t → ⊥)
+    → releasedIn rs (k + d) t i ≡ releasedIn rs k t i
 released-rest rs k t i zero h = let z : k + 0 ≡ k = omega arith in rw z
 released-rest rs k t i (suc d) h =
     let z : k + suc d ≡ suc (k + d) = omega arith in
-    rw z (released-old rs (k + d) t i (λ e f. h (k + d) (omega arith) (omega arith) e) ∙ released-rest rs k t i d (λ j p q. h j p (omega arith)))
+    rw z (released-old rs (k + d) t i (λ e f. h (k + d) (omega arith) (omega arith) e)
+    ∙ released-rest rs k t i d (λ j p q. h j p (omega arith)))
 
 pub record Took (rs : List ℕ) (clock k : ℕ) (place : List ℕ) (released : List Bool) : Type 0 where
   pub reached : Reached rs k (suc clock)
   pub at-place : place ≡ places rs k
   pub at-released : released ≡ releases rs (releaseCount rs) clock
 
-pub taking-done : (rs : List ℕ) (clock k : ℕ) (place : List ℕ) (released : List Bool) → Orderly rs → (k < releaseCount rs → timeOf rs k ≡ clock → ⊥)
+pub taking-done : (rs : List ℕ) (clock k : ℕ) (place : List ℕ) (released : List Bool) → Orderly rs
+    → (k < releaseCount rs → timeOf rs k ≡ clock → ⊥)
     → Taking rs clock k place released → Took rs clock k place released
 taking-done rs clock k place released u stop w =
     let z : k + (releaseCount rs - k) ≡ releaseCount rs = omega (arith, w .within) in

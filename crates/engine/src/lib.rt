@@ -30,7 +30,8 @@ fn take_releases(
     requires { ⌜ Orderly (now trace) ⌝ }
     requires { ⌜ Reached (now trace) from clock ⌝ }
     requires { ⌜ now place ≡ places (now trace) from ⌝ }
-    ensures { λ next. ⌜ Reached (now (trace .entry)) next (suc clock) × (now (place .exit) ≡ places (now (trace .entry)) next) × (now (released .exit) ≡ releases (now (trace .entry)) (releaseCount (now (trace .entry))) clock) ⌝ }
+    ensures { λ next. ⌜ Reached (now (trace .entry)) next (suc clock) × (now (place .exit) ≡ places (now (trace .entry)) next)
+        × (now (released .exit) ≡ releases (now (trace .entry)) (releaseCount (now (trace .entry))) clock) ⌝ }
 {
     *released = [false; 32];
     let n = trace.len() / RELEASE_WIDTH;
@@ -87,7 +88,10 @@ fn turn(
     requires { ⌜ Walking (caseOf procs policy (now table) end (now trace)) clock run (now place) (now next) (now jobs) ⌝ }
     requires { ⌜ clock < end ⌝ }
     requires { ⌜ (noting ≡ true → now out ≡ roomAt (caseOf procs policy (now table) end (now trace)) clock (now out)) ⌝ }
-    ensures { λ after. ⌜ Turned (caseOf procs policy (now (table .entry)) end (now (trace .entry))) clock after (now (place .exit)) (now (next .exit)) (now (jobs .exit)) (now (ran .exit)) × (noting ≡ true → now (out .exit) ≡ roomAt (caseOf procs policy (now (table .entry)) end (now (trace .entry))) (suc clock) (now (out .entry))) ⌝ }
+    ensures { λ after. ⌜ Turned (caseOf procs policy (now (table .entry)) end (now (trace .entry))) clock after (now (place .exit))
+        (now (next .exit)) (now (jobs .exit)) (now (ran .exit))
+        × (noting ≡ true → now (out .exit) ≡ roomAt (caseOf procs policy (now (table .entry)) end (now (trace .entry))) (suc clock)
+        (now (out .entry))) ⌝ }
 {
     let mut released = [false; 32];
     let mut demoted = [false; 32];
@@ -136,7 +140,9 @@ fn walk(
     requires { ⌜ first ≡ fresh ⌝ }
     requires { ⌜ until ≤ end ⌝ }
     requires { ⌜ (noting ≡ true → now out ≡ roomAt (caseOf procs policy (now table) end (now trace)) 0 (now out)) ⌝ }
-    ensures { λ ran. ⌜ LastRan (caseOf procs policy (now (table .entry)) end (now (trace .entry))) until ran × (noting ≡ true → now (out .exit) ≡ roomAt (caseOf procs policy (now (table .entry)) end (now (trace .entry))) until (now (out .entry))) ⌝ }
+    ensures { λ ran. ⌜ LastRan (caseOf procs policy (now (table .entry)) end (now (trace .entry))) until ran
+        × (noting ≡ true → now (out .exit)
+        ≡ roomAt (caseOf procs policy (now (table .entry)) end (now (trace .entry))) until (now (out .entry))) ⌝ }
 {
     let mut run = first;
     let mut place: [usize; 32] = [0; 32];
@@ -211,7 +217,8 @@ pub fn replay(
     trace: &[u32],
     out: &mut [u32],
 ) -> Replayed
-    ensures { λ r. ⌜ ReplayPromise (caseOf procs policy (now (table .entry)) end (now (trace .entry))) (now (out .entry)) r (now (out .exit)) ⌝ }
+    ensures { λ r. ⌜ ReplayPromise (caseOf procs policy (now (table .entry)) end (now (trace .entry)))
+        (now (out .entry)) r (now (out .exit)) ⌝ }
 {
     let room = out.len();
     let f = checks::replay_fault(procs, policy, table, end, trace, room);

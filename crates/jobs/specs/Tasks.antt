@@ -28,7 +28,12 @@ pub record Startable (table : List ℕ) (i : ℕ) : Type 0 where
 
 -- a task with the job that step 2 gives it, its free count told
 abbrev pub startedTask : List ℕ → ℕ → ℕ → ℕ → Task → Task
-startedTask table i free now t = record { number = t .number; last = suc now; job = Normal (execution table i) free (now + deadline table i) }
+startedTask table i free now t = record {
+  number = t .number;
+  last = suc now;
+  job =
+      Normal (execution table i) free (now + deadline table i);
+}
 
 -- steps 1 and 2
 abbrev pub readiedTask : List ℕ → ℕ → ℕ → Bool → ℕ → Task → Task

@@ -84,7 +84,8 @@ row-passed x fs e h = row-clear fs (ap (λ (u : Fault). u .number) (sym e) ∙ h
 pub firstOf-clear : (f : ℕ → Fault) (n : ℕ) → firstOf f n .number ≡ 0 → (j : ℕ) → j < n → f j .number ≡ 0
 unfolding firstOf
 firstOf-clear f zero e j h = absurd (omega arith)
-firstOf-clear f (suc n) e j h = go (firstOf-clear f n (next-clear (firstOf f n) (f n) e .0) j) (eq-or-lt-of-le {n = j} {m = n} (omega arith))
+firstOf-clear f (suc n) e j h = go (firstOf-clear f n (next-clear (firstOf f n) (f n) e .0) j)
+    (eq-or-lt-of-le {n = j} {m = n} (omega arith))
   where
     go : (j < n → f j .number ≡ 0) → (j ≡ n) ⊎ (j < n) → f j .number ≡ 0
     go ih (inl q) = rw q (next-clear (firstOf f n) (f n) e .1)

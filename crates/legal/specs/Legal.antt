@@ -14,11 +14,14 @@ use borrow.Author.Tests.{eqb-true, eqb-false, leb-true, ltb-true}
 use Rattle.rules.specs.Words.{pick}
 use Rattle.rules.specs.Case.{Case, taskCount, period, execution, deadline, releaseCount, timeOf, nameOf}
 use Rattle.rules.specs.Policies.{maxPolicy}
-use Rattle.rules.specs.Refusals.{procsFault, policyFault, tableFault, tasksFault, endFault, traceFault, lastBefore, laterThan, inOrder, apart, releasesFault, roomFault, slotFault, caseTests, caseFault, countsTests, countsFault, replayFault, runningFault, Accepted}
+use Rattle.rules.specs.Refusals.{procsFault, policyFault, tableFault, tasksFault, endFault, traceFault, lastBefore, laterThan, inOrder}
+use Rattle.rules.specs.Refusals.{apart, releasesFault, roomFault, slotFault, caseTests, caseFault, countsTests, countsFault, replayFault}
+use Rattle.rules.specs.Refusals.{runningFault, Accepted}
 use Rattle.rules.specs.Limits.{maxProcs, maxTasks, maxEnd, maxReleases, taskWidth, releaseWidth, recordWidth}
 use Rattle.lists.specs.Tests.{and-left, or-cases}
 use Rattle.legal.specs.Firsts.{row-clear}
-use Rattle.legal.specs.Passing.{Procs, Sound, sound-table, procs-clear, policy-clear, table-clear, tasks-clear, end-clear, trace-clear, Released, releases-clear, room-clear, slot-clear}
+use Rattle.legal.specs.Passing.{Procs, Sound, sound-table, procs-clear, policy-clear, table-clear, tasks-clear, end-clear}
+use Rattle.legal.specs.Passing.{trace-clear, Released, releases-clear, room-clear, slot-clear}
 pub use Rattle.legal.specs.Firsts.{unless-clear, next-clear}
 pub use Rattle.legal.specs.Passing.{Good}
 
@@ -36,7 +39,12 @@ module _ (rs : List ℕ) (n : ℕ) (order : (j : ℕ) → j < n → inOrder rs j
   sorted-by zero j h = let z : j + 0 ≡ j = omega arith in rw z (omega arith)
   sorted-by (suc d) j h =
       let z : j + suc d ≡ suc (j + d) = omega arith in
-      rw z (omega (arith, sorted-by d j (omega arith), later-le (timeOf rs (j + d)) (nameOf rs (j + d)) (timeOf rs (suc (j + d))) (nameOf rs (suc (j + d))) (order (suc (j + d)) (omega arith))))
+      rw z (omega (
+        arith,
+        sorted-by d j (omega arith),
+        later-le (timeOf rs (j + d)) (nameOf rs (j + d)) (timeOf rs (suc (j + d)))
+            (nameOf rs (suc (j + d))) (order (suc (j + d)) (omega arith)),
+      ))
 
   pub sorted : (j k : ℕ) → j ≤ k → k < n → timeOf rs j ≤ timeOf rs k
   sorted j k p q =
@@ -47,9 +55,11 @@ module _ (rs : List ℕ) (n : ℕ) (order : (j : ℕ) → j < n → inOrder rs j
   last-late : (k j name : ℕ) → j < k → k ≤ n → nameOf rs j ≡ name → timeOf rs j < lastBefore rs k name
   unfolding lastBefore
   last-late zero j name h p e = absurd (omega arith)
-  last-late (suc k) j name h p e = go (λ x. last-late k j name x (omega arith) e) (eqb (nameOf rs k) name) refl (eq-or-lt-of-le {n = j} {m = k} (omega arith))
+  last-late (suc k) j name h p e = go (λ x. last-late k j name x (omega arith) e)
+      (eqb (nameOf rs k) name) refl (eq-or-lt-of-le {n = j} {m = k} (omega arith))
     where
-      go : (j < k → timeOf rs j < lastBefore rs k name) → (b : Bool) → eqb (nameOf rs k) name ≡ b → (j ≡ k) ⊎ (j < k) → timeOf rs j < pick b (suc (timeOf rs k)) (lastBefore rs k name)
+      go : (j < k → timeOf rs j < lastBefore rs k name) → (b : Bool) → eqb (nameOf rs k) name ≡ b → (j ≡ k) ⊎ (j < k)
+          → timeOf rs j < pick b (suc (timeOf rs k)) (lastBefore rs k name)
       go ih true q x = omega (arith, sorted j k (omega arith) (omega arith))
       go ih false q (inl x) = absurd (eqb-false _ _ q (ap (nameOf rs) (sym x) ∙ e))
       go ih false q (inr x) = ih x
@@ -143,7 +153,12 @@ pub counts-clear : (m : ℕ) (ts : List ℕ) (room : ℕ) → countsFault m ts r
 unfolding countsFault
 counts-clear m ts room e =
     let w = row-clear (countsTests m ts room) e in
-    record { procs = procs-clear m (w .0); sound = sound-table ts (w .1 .0) (w .1 .1 .0); roomy = room-clear (taskCount ts) room (w .1 .1 .1 .0) }
+    record {
+      procs = procs-clear m (w .0);
+      sound = sound-table ts (w .1 .0) (w .1 .1 .0);
+      roomy =
+          room-clear (taskCount ts) room (w .1 .1 .1 .0);
+    }
 
 pub replay-clear : (c : Case) (room : ℕ) → replayFault c room .number ≡ 0 → Accepted c × (releaseCount (c .trace) * recordWidth ≤ room)
 unfolding replayFault Accepted

@@ -11,7 +11,9 @@ use borrow.Author.Tests.{eqb-true, leb-true, ltb-true, le-leb}
 use Rattle.rules.specs.Limits.{maxProcs, maxTasks, maxPeriod, maxEnd, maxReleases, taskWidth, releaseWidth}
 use Rattle.rules.specs.Case.{taskCount, period, execution, deadline, releaseCount, timeOf, nameOf}
 use Rattle.rules.specs.Policies.{maxPolicy}
-use Rattle.rules.specs.Refusals.{noFault, unless, procsFault, policyFault, tableFault, taskStands, taskFault, tasksFault, endFault, traceFault, named, lastBefore, inOrder, apart, releaseTests, releaseFault, releasesFault, roomFault, slotFault}
+use Rattle.rules.specs.Refusals.{noFault, unless, procsFault, policyFault, tableFault, taskStands, taskFault, tasksFault, endFault}
+use Rattle.rules.specs.Refusals.{traceFault, named, lastBefore, inOrder, apart, releaseTests, releaseFault, releasesFault, roomFault}
+use Rattle.rules.specs.Refusals.{slotFault}
 use Rattle.lists.specs.Tests.{and-left, and-right}
 use Rattle.legal.specs.Firsts.{unless-clear, unless-none, row-clear, row-none, firstOf-clear}
 
@@ -82,7 +84,8 @@ module _ (ts : List ℕ) (i : ℕ) where
   unfolding taskFault
   task-none e = unless-none (taskStands (period ts i) (execution ts i) (deadline ts i)) 6 (suc i) (omega arith) e
 
-pub tasks-clear : (ts : List ℕ) → tasksFault ts .number ≡ 0 → (i : ℕ) → i < taskCount ts → Good (period ts i) (execution ts i) (deadline ts i)
+pub tasks-clear : (ts : List ℕ) → tasksFault ts .number ≡ 0 → (i : ℕ) → i < taskCount ts
+    → Good (period ts i) (execution ts i) (deadline ts i)
 tasks-clear ts e i h = task-clear ts i (firstOf-clear (taskFault ts) (taskCount ts) e i h)
 
 -- a table that stands: it passes 5 and 6
@@ -144,7 +147,8 @@ module _ (ts : List ℕ) (e : ℕ) (rs : List ℕ) (j : ℕ) where
   unfolding releaseFault
   release-none h = let tests = releaseTests ts e rs j in row-none tests (row-clear tests h)
 
-pub releases-clear : (ts : List ℕ) (e : ℕ) (rs : List ℕ) → releasesFault ts e rs .number ≡ 0 → (j : ℕ) → j < releaseCount rs → Released ts e rs j
+pub releases-clear : (ts : List ℕ) (e : ℕ) (rs : List ℕ) → releasesFault ts e rs .number ≡ 0 → (j : ℕ) → j < releaseCount rs
+    → Released ts e rs j
 releases-clear ts e rs h j l = release-clear ts e rs j (firstOf-clear (releaseFault ts e rs) (releaseCount rs) h j l)
 
 -- ---- 13: the room, both ways

@@ -18,7 +18,8 @@ use Rattle.kinds.specs.Says.{Opens}
 use Rattle.kinds.proofs.Order.{not-release, not-other}
 use Rattle.lines.specs.declared.Head.{Head}
 use Rattle.lines.specs.declared.HeadRead.{HeadRead}
-use Rattle.lines.specs.Held.{tableRoom, traceRoom, clip, keptCase, lineFault, nextSays, noLines, headWith, rowNumbers, releaseNumbers, Added}
+use Rattle.lines.specs.Held.{tableRoom, traceRoom, clip, keptCase, lineFault, nextSays, noLines, headWith, rowNumbers, releaseNumbers}
+use Rattle.lines.specs.Held.{Added}
 use Rattle.lines.specs.Gathers.{InHead}
 use Rattle.lines.proofs.Faults.{line-follows}
 use Rattle.lines.proofs.Keeps.{kept-line}

@@ -22,7 +22,8 @@ with-head h ts rs = caseOf (h .procs) (h .policy) ts (h .end) rs
 
 -- what is kept with one more line
 line-kept : (c : Case) (l : Line)
-    → clip (withLine c l) ≡ with-head (headWith (headOf (c .procs) (c .policy) (c .end)) l) (take tableRoom (c .table ++ rowNumbers l)) (take traceRoom (c .trace ++ releaseNumbers l))
+    → clip (withLine c l) ≡ with-head (headWith (headOf (c .procs) (c .policy) (c .end)) l) (take tableRoom (c .table ++ rowNumbers l))
+    (take traceRoom (c .trace ++ releaseNumbers l))
 unfolding clip withLine
 line-kept c Bad = rw (append-nil (c .table), append-nil (c .trace))
 line-kept c (Procs m) = rw (append-nil (c .table), append-nil (c .trace))
@@ -35,12 +36,14 @@ clip-line : (c : Case) (l : Line) → clip (withLine (clip c) l) ≡ clip (withL
 unfolding clip
 clip-line c l =
     line-kept (clip c) l ∙
-    ap₂ (with-head (headWith (headOf (c .procs) (c .policy) (c .end)) l)) (take-clipped tableRoom (c .table) (rowNumbers l)) (take-clipped traceRoom (c .trace) (releaseNumbers l)) ∙
+    ap₂ (with-head (headWith (headOf (c .procs) (c .policy) (c .end)) l)) (take-clipped tableRoom (c .table) (rowNumbers l))
+    (take-clipped traceRoom (c .trace) (releaseNumbers l)) ∙
     sym (line-kept c l)
 
 clip-clip : (c : Case) → clip (clip c) ≡ clip c
 unfolding clip
-clip-clip c = ap₂ (with-head (headOf (c .procs) (c .policy) (c .end))) (take-take tableRoom tableRoom (c .table) (omega arith)) (take-take traceRoom traceRoom (c .trace) (omega arith))
+clip-clip c = ap₂ (with-head (headOf (c .procs) (c .policy) (c .end))) (take-take tableRoom tableRoom (c .table) (omega arith))
+    (take-take traceRoom traceRoom (c .trace) (omega arith))
 
 clip-lines : (c : Case) (ls : List Line) → clip (withLines (clip c) ls) ≡ clip (withLines c ls)
 unfolding withLines

@@ -36,7 +36,8 @@ module _ (room width n : ℕ) (old : List ℕ) (w : Whole room width n old) wher
       }
 
   -- the numbers are stored behind those that are kept
-  pub adds-some : (new xs : List ℕ) (n′ : ℕ) → n′ ≡ n + length new → n′ ≤ room → n′ % width ≡ 0 → xs ≡ sets old n new → Added room width n new old n′ xs
+  pub adds-some : (new xs : List ℕ) (n′ : ℕ) → n′ ≡ n + length new → n′ ≤ room → n′ % width ≡ 0 → xs ≡ sets old n new
+      → Added room width n new old n′ xs
   adds-some new xs n′ e l m q =
       let k : length (take n old) ≡ n = length-take-le n old (omega (arith, w .long, w .within)) in
       let j : length (take n old ++ new) ≡ n′ = length-append (take n old) new ∙ omega arith in
@@ -55,10 +56,12 @@ module _ (room width n : ℕ) (old : List ℕ) (w : Whole room width n old) wher
       let k : n + 2 ≡ suc (suc n) = omega arith in
       rw e (adds-some (a ∷ b ∷ d ∷ []) (set (set (set old n a) (n + 1) b) (n + 2) d) (n + 3) (omega arith) l m (rw (add-one n, k)))
 
-  pub adds-two : (new : List ℕ) (a b : ℕ) → new ≡ a ∷ b ∷ [] → n + 2 ≤ room → (n + 2) % width ≡ 0 → Added room width n new old (n + 2) (set (set old n a) (n + 1) b)
+  pub adds-two : (new : List ℕ) (a b : ℕ) → new ≡ a ∷ b ∷ [] → n + 2 ≤ room → (n + 2) % width ≡ 0
+      → Added room width n new old (n + 2) (set (set old n a) (n + 1) b)
   adds-two new a b e l m = rw e (adds-some (a ∷ b ∷ []) (set (set old n a) (n + 1) b) (n + 2) (omega arith) l m (rw (add-one n)))
 
-none-of-five : {a b d e f x : ℕ} → OneOf (a ∷ b ∷ d ∷ e ∷ f ∷ []) x → (x ≡ a → ⊥) → (x ≡ b → ⊥) → (x ≡ d → ⊥) → (x ≡ e → ⊥) → (x ≡ f → ⊥) → ⊥
+none-of-five : {a b d e f x : ℕ} → OneOf (a ∷ b ∷ d ∷ e ∷ f ∷ []) x → (x ≡ a → ⊥) → (x ≡ b → ⊥) → (x ≡ d → ⊥) → (x ≡ e → ⊥) → (x ≡ f → ⊥)
+    → ⊥
 none-of-five h p q r s t = ⊎-elim p (⊎-elim q (⊎-elim r (⊎-elim s t))) h
 
 -- a line that is not badly formed has a kind
@@ -75,7 +78,8 @@ pub not-row : (l : Line) → OneOf (0 ∷ 1 ∷ 2 ∷ 4 ∷ 5 ∷ []) (tagOf the
 not-row Bad h = refl
 not-row (Procs m) h = refl
 not-row (Policy p) h = refl
-not-row (Row T C D) h = absurd (none-of-five h (λ e. omega arith) (λ e. omega arith) (λ e. omega arith) (λ e. omega arith) (λ e. omega arith))
+not-row (Row T C D) h = absurd (none-of-five h (λ e. omega arith) (λ e. omega arith) (λ e. omega arith) (λ e. omega arith)
+    (λ e. omega arith))
 not-row (End e) h = refl
 not-row (Release t n) h = refl
 
@@ -85,4 +89,5 @@ not-release (Procs m) h = refl
 not-release (Policy p) h = refl
 not-release (Row T C D) h = refl
 not-release (End e) h = refl
-not-release (Release t n) h = absurd (none-of-five h (λ e. omega arith) (λ e. omega arith) (λ e. omega arith) (λ e. omega arith) (λ e. omega arith))
+not-release (Release t n) h = absurd (none-of-five h (λ e. omega arith) (λ e. omega arith) (λ e. omega arith) (λ e. omega arith)
+    (λ e. omega arith))

@@ -74,12 +74,14 @@ pub each-none : {A : Type 0} (f : ℕ → A → A) (n : ℕ) (xs : List A) → l
 each-none f n xs p = filling-none n (mapAt f xs) xs p (mapFrom-long f 0 xs ∙ p)
 
 module _ {A : Type 0} (f : ℕ → A → A) (n : ℕ) (xs s : List A) where
-  pub each-store : (i : ℕ) (d r : A) → i < n → Filling n (mapAt f xs) xs s i → r ≡ f i (getD s i d) → Filling n (mapAt f xs) xs (set s i r) (i + 1)
+  pub each-store : (i : ℕ) (d r : A) → i < n → Filling n (mapAt f xs) xs s i → r ≡ f i (getD s i d)
+      → Filling n (mapAt f xs) xs (set s i r) (i + 1)
   each-store i d r h w e =
       filling-store n (mapAt f xs) xs s i d r h w
       (e ∙ ap (f i) (filling-at n (mapAt f xs) xs s i d h w) ∙ sym (mapAt-at f xs i d (omega (arith, w .long))))
 
-  pub each-keep : (i : ℕ) (d : A) → i < n → Filling n (mapAt f xs) xs s i → f i (getD s i d) ≡ getD s i d → Filling n (mapAt f xs) xs s (i + 1)
+  pub each-keep : (i : ℕ) (d : A) → i < n → Filling n (mapAt f xs) xs s i → f i (getD s i d) ≡ getD s i d
+      → Filling n (mapAt f xs) xs s (i + 1)
   each-keep i d h w e =
       let a = filling-at n (mapAt f xs) xs s i d h w in
       filling-keep n (mapAt f xs) xs s i d h w (sym (mapAt-at f xs i d (omega (arith, w .long)) ∙ ap (f i) (sym a) ∙ e ∙ a))
@@ -103,5 +105,6 @@ module _ {A : Type 0} (f : ℕ → A) (xs s : List A) (i : ℕ) where
         within = omega arith;
         so-far =
             rw (w .so-far, e, drop-cons xs i d h)
-            (set-at (tab f 0 i) (getD xs i d) (drop (suc i) xs) (f i) i (tab-long f 0 i) ∙ rw (add-one, tab-snoc f 0 i, zero-add, append-snoc));
+            (set-at (tab f 0 i) (getD xs i d) (drop (suc i) xs) (f i) i (tab-long f 0 i)
+            ∙ rw (add-one, tab-snoc f 0 i, zero-add, append-snoc));
       }

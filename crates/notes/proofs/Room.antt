@@ -35,15 +35,18 @@ pub open-next : (xs : List ℕ) (j : ℕ) → j * 3 + 2 < length xs
     ≡ numbers (tab (λ j. openRecord) 0 (j + 1)) ++ drop ((j + 1) * 3) xs
 open-next xs j h =
     let n = j * 3 in
-    let long : length (numbers (tab (λ j. openRecord) 0 j)) ≡ j * 3 = numbers-long _ ∙ ap (λ (k : ℕ). k * 3) (tab-long (λ j. openRecord) 0 j) in
-    let d : drop (j * 3) xs ≡ getD xs (j * 3) 0 ∷ getD xs (suc (j * 3)) 0 ∷ getD xs (suc (suc (j * 3))) 0 ∷ drop (suc (suc (suc (j * 3)))) xs =
+    let long : length (numbers (tab (λ j. openRecord) 0 j)) ≡ j * 3 =
+    numbers-long _ ∙ ap (λ (k : ℕ). k * 3) (tab-long (λ j. openRecord) 0 j) in
+    let d : drop (j * 3) xs ≡ getD xs (j * 3) 0 ∷ getD xs (suc (j * 3)) 0 ∷ getD xs (suc (suc (j * 3))) 0
+    ∷ drop (suc (suc (suc (j * 3)))) xs =
     drop-cons xs (j * 3) 0 (omega arith) ∙
     ap (λ (l : List ℕ). getD xs (j * 3) 0 ∷ l) (drop-cons xs (suc (j * 3)) 0 (omega arith) ∙
     ap (λ (l : List ℕ). getD xs (suc (j * 3)) 0 ∷ l) (drop-cons xs (suc (suc (j * 3))) 0 (omega arith)))
     in
     let e : (j + 1) * 3 ≡ suc (suc (suc (j * 3))) = omega arith in
     rw (d, e, add-one j) (set3 (numbers (tab (λ j. openRecord) 0 j)) (drop (suc (suc (suc (j * 3)))) xs) _ _ _ 3 0 0 (j * 3) long ∙
-    sym (rw (tab-snoc (λ (j : ℕ). openRecord) 0 j, numbers-snoc (tab (λ j. openRecord) 0 j) openRecord) (append-assoc (numbers (tab (λ j. openRecord) 0 j)) (3 ∷ 0 ∷ 0 ∷ []) (drop (suc (suc (suc (j * 3)))) xs))))
+    sym (rw (tab-snoc (λ (j : ℕ). openRecord) 0 j, numbers-snoc (tab (λ j. openRecord) 0 j) openRecord)
+    (append-assoc (numbers (tab (λ j. openRecord) 0 j)) (3 ∷ 0 ∷ 0 ∷ []) (drop (suc (suc (suc (j * 3)))) xs))))
 
 -- three stores are a record's store
 pub stores : (xs : List ℕ) (p v f d : ℕ) (r : Record) → v ≡ r .verdict → f ≡ r .finish → d ≡ r .demotion
@@ -56,9 +59,11 @@ unfolding put3
 put3-long xs p r = simp length-set
 
 -- ---- the stores of one slot, one task more
-module _ (t : ℕ) (place : List ℕ) (fin dem missed : List Bool) (i : ℕ) (xs out new : List ℕ) (so-far : out ≡ noteTo t place fin dem missed i xs) where
+module _ (t : ℕ) (place : List ℕ) (fin dem missed : List Bool) (i : ℕ) (xs out new : List ℕ)
+    (so-far : out ≡ noteTo t place fin dem missed i xs) where
   pub note-yes : (b : Bool) → b ≡ eventAt fin dem missed i → b ≡ true
-      → new ≡ put3 out (getD place i 0) (entry t (getD fin i false) (getD dem i false) (getD missed i false) (getD out (getD place i 0 * 3 + 2) 0))
+      → new ≡ put3 out (getD place i 0) (entry t (getD fin i false) (getD dem i false) (getD missed i false)
+      (getD out (getD place i 0 * 3 + 2) 0))
       → new ≡ noteTo t place fin dem missed (i + 1) xs
   unfolding noteTo noteOne
   note-yes b e h n = n ∙ rw (add-one i, sym e ∙ h, ← so-far)
@@ -68,7 +73,8 @@ module _ (t : ℕ) (place : List ℕ) (fin dem missed : List Bool) (i : ℕ) (xs
   note-no b e h n = n ∙ so-far ∙ sym (rw (add-one i, sym e ∙ h))
 
 -- nothing happens to one task more
-pub uneventful-more : (fin dem missed : List Bool) (i : ℕ) → Uneventful fin dem missed i → eventAt fin dem missed i ≡ false → Uneventful fin dem missed (i + 1)
+pub uneventful-more : (fin dem missed : List Bool) (i : ℕ) → Uneventful fin dem missed i → eventAt fin dem missed i ≡ false
+    → Uneventful fin dem missed (i + 1)
 uneventful-more fin dem missed i h e j l = go (eq-or-lt-of-le {n = j} {m = i} (omega arith))
   where
     go : (j ≡ i) ⊎ (j < i) → eventAt fin dem missed j ≡ false

@@ -52,7 +52,8 @@ fn time_after(is: bool, clock: u32, old: u32) -> u32
 fn note_task(out: &mut [u32], p: usize, finished: bool, demoted: bool, missed: bool, clock: u32)
     requires { ⌜ p * recordWidth + 2 < length (now out) ⌝ }
     requires { ⌜ clock < maxEnd ⌝ }
-    ensures { λ r. ⌜ now (out .exit) ≡ put3 (now (out .entry)) p (entry clock finished demoted missed (getD (now (out .entry)) (p * recordWidth + 2) 0)) ⌝ }
+    ensures { λ r. ⌜ now (out .exit) ≡ put3 (now (out .entry)) p
+        (entry clock finished demoted missed (getD (now (out .entry)) (p * recordWidth + 2) 0)) ⌝ }
 {
     let v = verdict_after(finished, missed);
     let f = time_after(finished, clock, 0);
@@ -74,7 +75,8 @@ fn note_all(
 )
     requires { ⌜ Roomy (now place) (now finished) (now demoted) (now missed) (length (now out)) ⌝ }
     requires { ⌜ clock < maxEnd ⌝ }
-    ensures { λ r. ⌜ now (out .exit) ≡ noteTo clock (now (place .entry)) (now (finished .entry)) (now (demoted .entry)) (now (missed .entry)) maxTasks (now (out .entry)) ⌝ }
+    ensures { λ r. ⌜ now (out .exit) ≡ noteTo clock (now (place .entry)) (now (finished .entry)) (now (demoted .entry))
+        (now (missed .entry)) maxTasks (now (out .entry)) ⌝ }
 {
     let mut i: usize = 0;
     while i < 32 {
@@ -115,7 +117,8 @@ pub fn note_slot(
 )
     requires { ⌜ Roomy (now place) (now finished) (now demoted) (now missed) (length (now out)) ⌝ }
     requires { ⌜ clock < maxEnd ⌝ }
-    ensures { λ r. ⌜ now (out .exit) ≡ noteTo clock (now (place .entry)) (now (finished .entry)) (now (demoted .entry)) (now (missed .entry)) maxTasks (now (out .entry)) ⌝ }
+    ensures { λ r. ⌜ now (out .exit) ≡ noteTo clock (now (place .entry)) (now (finished .entry)) (now (demoted .entry))
+        (now (missed .entry)) maxTasks (now (out .entry)) ⌝ }
 {
     if any_event(finished, demoted, missed) {
         note_all(out, place, finished, demoted, missed, clock);

@@ -13,7 +13,8 @@ use Rattle.rules.specs.Case.{Case, taskCount, releaseCount}
 use Rattle.rules.specs.Replay.{Record, metJobs, missedJobs, openJobs}
 use Rattle.rules.specs.Text.{newlineByte, digitsOf}
 use Rattle.rules.specs.Writer.{lineText, moreFields}
-use Rattle.rules.specs.Report.{spaceByte, jobWord, metWord, missedWord, openWord, verdictName, finishField, demotionField, runLine, jobLine, totalLine}
+use Rattle.rules.specs.Report.{spaceByte, jobWord, metWord, missedWord, openWord, verdictName, finishField, demotionField, runLine, jobLine}
+use Rattle.rules.specs.Report.{totalLine}
 use Rattle.texts.specs.Digits.{at-most-ten}
 use Rattle.puts.specs.Laid.{Laid}
 use Rattle.puts.specs.Fields.{fieldsText, numberFields, numberLine, wordOf}
@@ -68,7 +69,8 @@ outcome-room r =
 
 -- ---- the fields and lines put together as they are written
 pub outcome-is : (r : Record)
-    → outcomeFields r ≡ (spaceByte ∷ verdictName (r .verdict)) ++ ((spaceByte ∷ finishField (r .finish)) ++ (spaceByte ∷ demotionField (r .demotion)))
+    → outcomeFields r ≡ (spaceByte ∷ verdictName (r .verdict))
+    ++ ((spaceByte ∷ finishField (r .finish)) ++ (spaceByte ∷ demotionField (r .demotion)))
 unfolding outcomeFields fieldsText
 outcome-is r = rw (append-nil (demotionField (r .demotion)))
 
@@ -79,7 +81,8 @@ job-is time task due r =
     let numbers = map digitsOf (time ∷ task ∷ due ∷ []) in
     let words = verdictName (r .verdict) ∷ finishField (r .finish) ∷ demotionField (r .demotion) ∷ [] in
     ap (λ (l : List ℕ). jobWord ++ l)
-    (sym (fields-then spaceByte numbers words) ∙ ap (λ (l : List ℕ). fieldsText spaceByte numbers ++ l) (sym (fields-then spaceByte words [])))
+    (sym (fields-then spaceByte numbers words) ∙ ap (λ (l : List ℕ). fieldsText spaceByte numbers ++ l)
+    (sym (fields-then spaceByte words [])))
 
 -- ---- a time that is there
 pub finish-some : (f : ℕ) → (f ≡ 0 → ⊥) → finishField f ≡ digitsOf f
@@ -117,7 +120,8 @@ members-few s (suc n) = omega (arith, members-few s n, length-append (membersOf 
     one false = omega arith
 
 -- the numbers of a running line: the slot, and behind it the tasks
-pub slot-first : (slot : ℕ) (tasks rest new : List ℕ) (n : ℕ) → length tasks ≤ length rest → Laid 1 tasks (slot ∷ rest) new n → take (n - 0) new ≡ slot ∷ tasks
+pub slot-first : (slot : ℕ) (tasks rest new : List ℕ) (n : ℕ) → length tasks ≤ length rest → Laid 1 tasks (slot ∷ rest) new n
+    → take (n - 0) new ≡ slot ∷ tasks
 slot-first slot tasks rest new n h p =
     let k : length (slot ∷ tasks) ≡ n - 0 = omega (arith, p .behind) in
     let g : 1 + length tasks ≤ length (slot ∷ rest) = omega (arith, h) in

@@ -68,6 +68,7 @@ module _ (s : TaskSet) where
   members-are (suc n) h = rw (members-are n (omega arith), bit-at n h, bit-one (s n))
 
 -- the running line of a slot names the tasks that run in it
-pub running-is : (c : Case) (t : ℕ) → runningLine t (runningSet c t) ≡ lineText spaceByte runningWord (map digitsOf (t ∷ tasksIn (ranAt c t) maxTasks))
+pub running-is : (c : Case) (t : ℕ) → runningLine t (runningSet c t)
+    ≡ lineText spaceByte runningWord (map digitsOf (t ∷ tasksIn (ranAt c t) maxTasks))
 unfolding runningLine
 running-is c t = rw (members-are (ranAt c t) maxTasks (omega arith))

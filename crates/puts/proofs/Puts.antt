@@ -58,7 +58,8 @@ laid-then {at} {s} {t} {old} {mid} {new} {k} {end} p q =
     }
 
 -- a text at the start of the part lent from `a` on is that text from `a` on
-pub laid-part : (a : ℕ) (text xs ys : List ℕ) (n : ℕ) → a ≤ length xs → Laid 0 text (take (length xs - a) (drop a xs)) ys n → Laid a text xs (putMid a (length xs - a) xs ys) (a + n)
+pub laid-part : (a : ℕ) (text xs ys : List ℕ) (n : ℕ) → a ≤ length xs → Laid 0 text (take (length xs - a) (drop a xs)) ys n
+    → Laid a text xs (putMid a (length xs - a) xs ys) (a + n)
 laid-part a text xs ys n h p =
     let whole : take (length xs - a) (drop a xs) ≡ drop a xs = take-all (length xs - a) (drop a xs) (omega (arith, length-drop a xs)) in
     let none : postOf a (length xs - a) xs ≡ [] = post-is a (length xs) xs h ∙ drop-length xs in
@@ -81,11 +82,13 @@ pub laid-length : {at : ℕ} {text old new : List ℕ} {end : ℕ} → Laid at t
 laid-length {at} {text} {old} p = ap length (p .bytes) ∙ length-sets old at text
 
 -- what is laid at the start: the text, and after it what was there
-pub laid-front : {text old new : List ℕ} {end : ℕ} → Laid 0 text old new end → length text ≤ length old → new ≡ text ++ drop (length text) old
+pub laid-front : {text old new : List ℕ} {end : ℕ} → Laid 0 text old new end → length text ≤ length old
+    → new ≡ text ++ drop (length text) old
 laid-front {text} {old} p h = p .bytes ∙ sets-eq text old 0 (omega arith) ∙ rw (zero-add (length text))
 
 -- the last digit of what is left, stored before the others
-pub store-digit : (out : List ℕ) (at w i d : ℕ) → 10 ≤ w → w < 2 ^ 32 → i ≡ at + length (digitsOf w) → d ≡ 48 + w % 10 → sets (set out (i - 1) d) at (digitsOf (w / 10)) ≡ sets out at (digitsOf w)
+pub store-digit : (out : List ℕ) (at w i d : ℕ) → 10 ≤ w → w < 2 ^ 32 → i ≡ at + length (digitsOf w) → d ≡ 48 + w % 10
+    → sets (set out (i - 1) d) at (digitsOf (w / 10)) ≡ sets out at (digitsOf w)
 store-digit out at w i d h l e g =
     let n : i - 1 ≡ at + length (digitsOf (w / 10)) = omega (arith, step-length w h l) in
     rw (step w h l, n, g) (sets-last out at (48 + w % 10) (digitsOf (w / 10)))

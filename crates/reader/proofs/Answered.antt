@@ -13,7 +13,8 @@ use Rattle.rules.specs.Limits.{maxTasks, maxReleases, maxText, taskWidth, relea
 use Rattle.rules.specs.Case.{Case}
 use Rattle.rules.specs.Refusals.{noFault, unless, orNext, roomFault, caseFault}
 use Rattle.rules.specs.Answers.{refusal, settled, kept, takenAs}
-use Rattle.rules.specs.Reader.{linesOf, caseOrder, linesFault, caseIn, lengthFault, textFault, readFault, readAnswer, readTasks, readReleases}
+use Rattle.rules.specs.Reader.{linesOf, caseOrder, linesFault, caseIn, lengthFault, textFault, readFault, readAnswer, readTasks}
+use Rattle.rules.specs.Reader.{readReleases}
 use Rattle.rules.specs.Calls.{ReadPromise}
 use Rattle.rules.specs.declared.Fault.{Fault}
 use Rattle.rules.specs.declared.Taken.{Taken}

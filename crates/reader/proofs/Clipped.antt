@@ -27,11 +27,13 @@ abbrev with-table : Case → List ℕ → List ℕ → Case
 with-table c ts rs = caseOf (c .procs) (c .policy) ts (c .end) rs
 
 -- two cases with too many tasks, or two with the same table and too many releases, have the same fault
-many-tasks : (c : Case) (ts rs ts′ rs′ : List ℕ) → tableRoom ≤ length ts → tableRoom ≤ length ts′ → caseFault (with-table c ts rs) ≡ caseFault (with-table c ts′ rs′)
+many-tasks : (c : Case) (ts rs ts′ rs′ : List ℕ) → tableRoom ≤ length ts → tableRoom ≤ length ts′
+    → caseFault (with-table c ts rs) ≡ caseFault (with-table c ts′ rs′)
 unfolding caseFault
 many-tasks c ts rs ts′ rs′ p q = rw (full-table ts _ p, full-table ts′ _ q)
 
-many-releases : (c : Case) (ts rs rs′ : List ℕ) → traceRoom ≤ length rs → traceRoom ≤ length rs′ → caseFault (with-table c ts rs) ≡ caseFault (with-table c ts rs′)
+many-releases : (c : Case) (ts rs rs′ : List ℕ) → traceRoom ≤ length rs → traceRoom ≤ length rs′
+    → caseFault (with-table c ts rs) ≡ caseFault (with-table c ts rs′)
 unfolding caseFault
 many-releases c ts rs rs′ p q = rw (full-trace rs _ p, full-trace rs′ _ q)
 
@@ -55,4 +57,5 @@ pub clip-none : (c : Case) → caseFault c .number ≡ 0 → clip c ≡ c
 unfolding clip Accepted
 clip-none c e =
     let l = legal c e in
-    ap₂ (with-table c) (take-all tableRoom (c .table) (omega (arith, l .tasks-few))) (take-all traceRoom (c .trace) (omega (arith, l .releases-few)))
+    ap₂ (with-table c) (take-all tableRoom (c .table) (omega (arith, l .tasks-few)))
+    (take-all traceRoom (c .trace) (omega (arith, l .releases-few)))

@@ -27,7 +27,8 @@ module _ (old numbers : List ℕ) (fits : length numbers ≤ length old) where
             (omega (arith, length-append numbers (drop (length numbers) old), length-drop (length numbers) old));
       }
 
-  pub copying-on : (room : List ℕ) (i : ℕ) → i < length numbers → Copying old numbers room i → Copying old numbers (set room i (getD numbers i 0)) (i + 1)
+  pub copying-on : (room : List ℕ) (i : ℕ) → i < length numbers → Copying old numbers room i
+      → Copying old numbers (set room i (getD numbers i 0)) (i + 1)
   copying-on room i h w =
       record {
         within = omega arith;

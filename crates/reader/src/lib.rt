@@ -100,7 +100,8 @@ fn put_case(
 ) -> Taken
     requires { ⌜ length (now table) ≤ length (now tasks) ⌝ }
     requires { ⌜ length (now trace) ≤ length (now releases) ⌝ }
-    ensures { λ r. ⌜ PutsCase (caseOf (head .procs) (head .policy) (now (table .entry)) (head .end) (now (trace .entry))) (now (tasks .entry)) (now (releases .entry)) r (now (tasks .exit)) (now (releases .exit)) ⌝ }
+    ensures { λ r. ⌜ PutsCase (caseOf (head .procs) (head .policy) (now (table .entry)) (head .end) (now (trace .entry)))
+        (now (tasks .entry)) (now (releases .entry)) r (now (tasks .exit)) (now (releases .exit)) ⌝ }
 {
     put_numbers(tasks, table);
     put_numbers(releases, trace);
@@ -125,7 +126,8 @@ fn refused(f: Fault) -> Taken
 
 // The reader: the case of a text, its numbers put into the lent rooms; on a refusal nothing is put there.
 pub fn read(text: &[u8], tasks: &mut [u32], releases: &mut [u32]) -> Taken
-    ensures { λ r. ⌜ ReadPromise (now (text .entry)) (now (tasks .entry)) (now (releases .entry)) r (now (tasks .exit)) (now (releases .exit)) ⌝ }
+    ensures { λ r. ⌜ ReadPromise (now (text .entry)) (now (tasks .entry)) (now (releases .entry)) r (now (tasks .exit))
+        (now (releases .exit)) ⌝ }
 {
     let no_room = rooms_fault(tasks.len(), releases.len());
     if no_room.number != 0 {

@@ -45,7 +45,13 @@ reason-short n p =
                       simp length-append (omega (arith, at-most-ten p)),
                       (
                         simp length-append (omega (arith, at-most-ten p)),
-                        (simp length-append (omega (arith, at-most-ten p)), (simp length-append (omega (arith, at-most-ten p)), (omega arith, (omega arith, (omega arith, (omega arith, tt)))))),
+                        (
+                          simp length-append (omega (arith, at-most-ten p)),
+                          (
+                            simp length-append (omega (arith, at-most-ten p)),
+                            (omega arith, (omega arith, (omega arith, (omega arith, tt)))),
+                          ),
+                        ),
                       ),
                     ),
                   ),
@@ -63,7 +69,8 @@ said : {text old new : List ℕ} {end : ℕ} (n p : ℕ) → text ≡ reasonOf n
 said n p f l = let m = rw f at l in record { laid = m; short = omega (arith, m .behind, reason-short n p) }
 
 -- what is laid are the words of the number k, and the refusal's number is k
-pub chosen : {n : ℕ} {text old new : List ℕ} {end : ℕ} (p k : ℕ) → n ≡ k → text ≡ reasonOf k p → Laid 0 text old new end → Said (reasonOf n p) old new end
+pub chosen : {n : ℕ} {text old new : List ℕ} {end : ℕ} (p k : ℕ) → n ≡ k → text ≡ reasonOf k p → Laid 0 text old new end
+    → Said (reasonOf n p) old new end
 chosen p k e f l = rw e (said k p f l)
 
 -- a number that is none of 1 to k, as a match says it in its last arm
@@ -82,7 +89,8 @@ above (suc k) n h o = next (o .1) (above k n h (o .0))
 beyond : (n p : ℕ) → Outside 15 n → plainReason n p ≡ reasonOf n p
 unfolding reasonOf
 beyond zero p o = refl
-beyond (suc n) p o = rw (List·getD-eq-default (plainReason (suc n) p ∷ reasons p) (plainReason (suc n) p) (above 15 (suc n) (omega arith) o))
+beyond (suc n) p o = rw (List·getD-eq-default (plainReason (suc n) p ∷ reasons p) (plainReason (suc n) p)
+    (above 15 (suc n) (omega arith) o))
 
 pub plainly : {old new : List ℕ} {end : ℕ} (n p : ℕ) → Outside 15 n → Laid 0 (plainReason n p) old new end → Said (reasonOf n p) old new end
 plainly n p o l = said n p (beyond n p o) l

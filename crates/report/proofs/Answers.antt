@@ -11,7 +11,8 @@ use Rattle.rules.specs.Words.{pick}
 use Rattle.rules.specs.declared.Fault.{Fault}
 use Rattle.rules.specs.Limits.{maxTasks, maxReleases, recordWidth}
 use Rattle.rules.specs.Case.{Case, taskCount, releaseCount}
-use Rattle.rules.specs.Refusals.{noFault, unless, orNext, procsFault, policyFault, tableFault, tasksFault, roomFault, slotFault, caseFault, countsFault, replayFault, runningFault, Accepted}
+use Rattle.rules.specs.Refusals.{noFault, unless, orNext, procsFault, policyFault, tableFault, tasksFault, roomFault, slotFault, caseFault}
+use Rattle.rules.specs.Refusals.{countsFault, replayFault, runningFault, Accepted}
 use Rattle.rules.specs.Answers.{refusal, result, settled}
 use Rattle.rules.specs.Replay.{runningSet}
 use Rattle.rules.specs.Calls.{runningAnswer}
@@ -53,7 +54,8 @@ replay-fits c h =
 pub write-fits : (c : Case) (room : ℕ) → Accepted c → printRoom ≤ room → writeFault c room .number ≡ 0
 write-fits c room h p = write-clear c room h (omega (arith, text-fits c h, p))
 
-table-clear : (c : Case) → Accepted c → (procsFault (c .procs) .number ≡ 0) × (tableFault (c .table) .number ≡ 0) × (tasksFault (c .table) .number ≡ 0)
+table-clear : (c : Case) → Accepted c → (procsFault (c .procs) .number ≡ 0) × (tableFault (c .table) .number ≡ 0)
+    × (tasksFault (c .table) .number ≡ 0)
 unfolding Accepted caseFault
 table-clear c e =
     let f1 = next-clear (procsFault (c .procs)) _ e in
@@ -89,7 +91,8 @@ module _ (c : Case) (s : ℕ) (ok : Accepted c) where
   unfolding settled
   slot-refused n p h = go (ltb s (c .end)) (h ∙ running-is)
     where
-      go : (b : Bool) → refusal n p ≡ settled (unless b 15 0) (runningSet c s ∷ []) → refusedLine n p ≡ pick b (runningLine s (runningSet c s)) (refusedLine 15 0)
+      go : (b : Bool) → refusal n p ≡ settled (unless b 15 0) (runningSet c s ∷ [])
+          → refusedLine n p ≡ pick b (runningLine s (runningSet c s)) (refusedLine 15 0)
       go true e = absurd (no-refusal n p _ e)
       go false e = ap refusalText e
 
@@ -97,6 +100,7 @@ module _ (c : Case) (s : ℕ) (ok : Accepted c) where
   unfolding settled
   slot-ran set h = go (ltb s (c .end)) (h ∙ running-is)
     where
-      go : (b : Bool) → result (set ∷ []) ≡ settled (unless b 15 0) (runningSet c s ∷ []) → runningLine s set ≡ pick b (runningLine s (runningSet c s)) (refusedLine 15 0)
+      go : (b : Bool) → result (set ∷ []) ≡ settled (unless b 15 0) (runningSet c s ∷ [])
+          → runningLine s set ≡ pick b (runningLine s (runningSet c s)) (refusedLine 15 0)
       go true e = ap (λ a. runningLine s (getD (valuesOf a) 0 0)) e
       go false e = absurd (no-refusal 15 0 _ (sym e))

@@ -32,12 +32,14 @@ use Rattle.report.proofs.Lines.{line-fits}
 use Rattle.report.proofs.Answers.{never-refused, values-are, write-fits, slot-refused, slot-ran}
 
 -- ---- the replay
-module _ (c : Case) (room : List ℕ) (x : Replayed) (f : replayFault c (length room) .number ≡ 0) (h : replayedAs x ≡ replayAnswer c room) where
+module _ (c : Case) (room : List ℕ) (x : Replayed) (f : replayFault c (length room) .number ≡ 0)
+    (h : replayedAs x ≡ replayAnswer c room) where
   pub replay-accepts : (n p : ℕ) → x ≡ Replayed·.Refused n p → ⊥
   unfolding replayAnswer
   replay-accepts n p e = never-refused (replayFault c (length room)) _ n p f (sym (ap replayedAs e) ∙ h)
 
-  pub replay-totals : (a b d : ℕ) → x ≡ Replayed·.Judged a b d → _≡_ {A = List ℕ} (a ∷ b ∷ d ∷ []) (metJobs c ∷ missedJobs c ∷ openJobs c ∷ [])
+  pub replay-totals : (a b d : ℕ) → x ≡ Replayed·.Judged a b d
+      → _≡_ {A = List ℕ} (a ∷ b ∷ d ∷ []) (metJobs c ∷ missedJobs c ∷ openJobs c ∷ [])
   unfolding replayAnswer
   replay-totals a b d e = values-are (replayFault c (length room)) _ _ (sym (ap replayedAs e) ∙ h)
 
@@ -50,7 +52,8 @@ module _ (m : ℕ) (ts room : List ℕ) (f : countsFault m ts (length room) .num
 
     pub counts-number : (n : ℕ) → x ≡ Counted·.Counts n → n ≡ taskCount ts
     unfolding countsAnswer
-    counts-number n e = ap (λ l. getD l 0 0) (values-are (countsFault m ts (length room)) (taskCount ts ∷ []) (n ∷ []) (sym (ap countedAs e) ∙ h))
+    counts-number n e = ap (λ l. getD l 0 0)
+        (values-are (countsFault m ts (length room)) (taskCount ts ∷ []) (n ∷ []) (sym (ap countedAs e) ∙ h))
 
   module _ (out : List ℕ) (o : out ≡ countsRoom m ts room) where
     counted : out ≡ freeCounts m ts ++ drop (taskCount ts) room
@@ -59,7 +62,11 @@ module _ (m : ℕ) (ts room : List ℕ) (f : countsFault m ts (length room) .num
 
     pub counts-long : taskCount ts ≤ length out
     counts-long =
-        omega (arith, ap length counted ∙ length-append (freeCounts m ts) (drop (taskCount ts) room), tab-long (freeCount m ts) 0 (taskCount ts))
+        omega (
+          arith,
+          ap length counted ∙ length-append (freeCounts m ts) (drop (taskCount ts) room),
+          tab-long (freeCount m ts) 0 (taskCount ts),
+        )
 
     counts-are : linesText (countText out) (taskCount ts) ≡ linesText (countText (freeCounts m ts)) (taskCount ts)
     unfolding linesText
@@ -69,10 +76,12 @@ module _ (m : ℕ) (ts room : List ℕ) (f : countsFault m ts (length room) .num
         (λ i p q.
         let g : i < taskCount ts = omega (arith, q) in
         let e : getD out i 0 ≡ getD (freeCounts m ts) i 0 =
-        ap (λ l. getD l i 0) counted ∙ tab-front (freeCount m ts) (taskCount ts) _ i 0 g ∙ sym (tab-at (freeCount m ts) (taskCount ts) i 0 g) in
+        ap (λ l. getD l i 0) counted ∙ tab-front (freeCount m ts) (taskCount ts) _ i 0 g
+        ∙ sym (tab-at (freeCount m ts) (taskCount ts) i 0 g) in
         rw e))
 
-    pub counts-shown : (n : ℕ) → n ≡ taskCount ts → taskCount ts ≤ maxTasks → (old new : List ℕ) (k : ℕ) → Listed (countText out) lineRoom 0 n old new k
+    pub counts-shown : (n : ℕ) → n ≡ taskCount ts → taskCount ts ≤ maxTasks → (old new : List ℕ) (k : ℕ)
+        → Listed (countText out) lineRoom 0 n old new k
         → Printed printRoom (countsText m ts) old new k
     counts-shown n e few old new k p =
         let q : Listed (countText out) lineRoom 0 (taskCount ts) old new k = rw e at p in
@@ -80,18 +89,21 @@ module _ (m : ℕ) (ts room : List ℕ) (f : countsFault m ts (length room) .num
 
 -- ---- the running set
 module _ (c : Case) (s : ℕ) (ok : Accepted c) (x : Running) (h : runningAs x ≡ runningAnswer c s) (old new : List ℕ) (k : ℕ) where
-  pub slot-no : (n p : ℕ) → x ≡ Running·.Refused n p → Printed lineRoom (refusedLine n p) old new k → Printed printRoom (slotText c s) old new k
+  pub slot-no : (n p : ℕ) → x ≡ Running·.Refused n p → Printed lineRoom (refusedLine n p) old new k
+      → Printed printRoom (slotText c s) old new k
   slot-no n p e q =
       let l : refusedLine n p ≡ slotText c s = slot-refused c s ok n p (sym (ap runningAs e) ∙ h) in
       rw l at (line-fits q)
 
-  pub slot-yes : (set : ℕ) → x ≡ Running·.Ran set → Printed lineRoom (runningLine s set) old new k → Printed printRoom (slotText c s) old new k
+  pub slot-yes : (set : ℕ) → x ≡ Running·.Ran set → Printed lineRoom (runningLine s set) old new k
+      → Printed printRoom (slotText c s) old new k
   slot-yes set e q =
       let l : runningLine s set ≡ slotText c s = slot-ran c s ok set (sym (ap runningAs e) ∙ h) in
       rw l at (line-fits q)
 
 -- ---- the writer
-module _ (c : Case) (old : List ℕ) (ok : Accepted c) (room : printRoom ≤ length old) (x : Written) (h : writtenAs x ≡ writeAnswer c old) where
+module _ (c : Case) (old : List ℕ) (ok : Accepted c) (room : printRoom ≤ length old) (x : Written)
+    (h : writtenAs x ≡ writeAnswer c old) where
   pub write-accepts : (n p : ℕ) → x ≡ Written·.Refused n p → ⊥
   unfolding writeAnswer
   write-accepts n p e = never-refused (writeFault c (length old)) _ n p (write-fits c (length old) ok room) (sym (ap writtenAs e) ∙ h)
@@ -100,9 +112,11 @@ module _ (c : Case) (old : List ℕ) (ok : Accepted c) (room : printRoom ≤ len
   unfolding writeAnswer writeBytes
   text-shown k e new o =
       let f = write-fits c (length old) ok room in
-      let n : k ≡ length (caseText c) = ap (λ l. getD l 0 0) (values-are (writeFault c (length old)) (length (caseText c) ∷ []) (k ∷ []) (sym (ap writtenAs e) ∙ h)) in
+      let n : k ≡ length (caseText c) = ap (λ l. getD l 0 0)
+      (values-are (writeFault c (length old)) (length (caseText c) ∷ []) (k ∷ []) (sym (ap writtenAs e) ∙ h)) in
       let g : 0 + length (caseText c) ≤ length old = omega (arith, text-fits c ok, room) in
-      let b : sets old 0 (caseText c) ≡ caseText c ++ drop (length (caseText c)) old = sets-eq (caseText c) old 0 g ∙ rw (zero-add (length (caseText c))) in
+      let b : sets old 0 (caseText c) ≡ caseText c ++ drop (length (caseText c)) old =
+      sets-eq (caseText c) old 0 g ∙ rw (zero-add (length (caseText c))) in
       record {
         laid = record { behind = omega (arith, n); bytes = o ∙ kept-new (writeFault c (length old)) _ _ f ∙ sym b };
         short = omega (arith, n, text-fits c ok);

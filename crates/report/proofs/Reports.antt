@@ -28,7 +28,8 @@ noRecord = recordOf 0 0 0
 
 -- the three numbers of record p
 numbers-at : (rs : List Record) (p : ℕ) (rest : List ℕ) → p < length rs
-    → recordOf (getD (numbers rs ++ rest) (p * 3) 0) (getD (numbers rs ++ rest) (p * 3 + 1) 0) (getD (numbers rs ++ rest) (p * 3 + 2) 0) ≡ getD rs p noRecord
+    → recordOf (getD (numbers rs ++ rest) (p * 3) 0) (getD (numbers rs ++ rest) (p * 3 + 1) 0) (getD (numbers rs ++ rest) (p * 3 + 2) 0)
+    ≡ getD rs p noRecord
 unfolding numbers
 numbers-at [] p rest h = absurd (not-suc-le-zero h)
 numbers-at (x ∷ rs) zero rest h = refl
@@ -40,7 +41,8 @@ numbers-at (x ∷ rs) (suc p) rest h =
 
 module _ (c : Case) (ok : Accepted c) where
   -- each release of an accepted case stands
-  pub stands : (vs : List ℕ) → releaseCount (c .trace) * recordWidth ≤ length vs → (j : ℕ) → j < releaseCount (c .trace) → Stands (c .table) (c .trace) vs j
+  pub stands : (vs : List ℕ) → releaseCount (c .trace) * recordWidth ≤ length vs → (j : ℕ) → j < releaseCount (c .trace)
+      → Stands (c .table) (c .trace) vs j
   stands vs r j h =
       let g = legal c ok in
       let n = g .named j h in
@@ -75,11 +77,14 @@ module _ (c : Case) (ok : Accepted c) where
         let g : j < length (records c) = omega (arith, long) in
         rw noted
         (ap (jobLine (timeOf (c .trace) j) (nameOf (c .trace) j) (timeOf (c .trace) j + deadline (c .table) (nameOf (c .trace) j - 1)))
-        (numbers-at (records c) j (drop (releaseCount (c .trace) * recordWidth) room) g ∙ tab-at (recordBy c (c .end)) (releaseCount (c .trace)) j noRecord h))
+        (numbers-at (records c) j (drop (releaseCount (c .trace) * recordWidth) room) g
+        ∙ tab-at (recordBy c (c .end)) (releaseCount (c .trace)) j noRecord h))
 
-    pub jobs-are : linesText (jobText (c .table) (c .trace) out) (releaseCount (c .trace)) ≡ joinedText (tab (releaseLine c) 0 (releaseCount (c .trace)))
+    pub jobs-are : linesText (jobText (c .table) (c .trace) out) (releaseCount (c .trace))
+        ≡ joinedText (tab (releaseLine c) 0 (releaseCount (c .trace)))
     unfolding linesText
-    jobs-are = ap joinedText (tab-cong (jobText (c .table) (c .trace) out) (releaseLine c) 0 (releaseCount (c .trace)) (λ j p q. job-is j (omega arith)))
+    jobs-are = ap joinedText (tab-cong (jobText (c .table) (c .trace) out) (releaseLine c) 0 (releaseCount (c .trace))
+        (λ j p q. job-is j (omega arith)))
 
 -- the run line, the job lines and the total line
 pub report-laid : (c : Case) (old a b new jobs : List ℕ) (i k end met missed open· : ℕ)

@@ -31,7 +31,8 @@ const RECORDS_ROOM: usize = MAX_RELEASES * RECORD_WIDTH;
 fn put_release(out: &mut [u8], table: &[u32], trace: &[u32], records: &[u32], j: usize) -> usize
     requires { ⌜ jobRoom ≤ length (now out) ⌝ }
     requires { ⌜ Stands (now table) (now trace) (now records) j ⌝ }
-    ensures { λ r. ⌜ Printed jobRoom (jobText (now (table .entry)) (now (trace .entry)) (now (records .entry)) j) (now (out .entry)) (now (out .exit)) r ⌝ }
+    ensures { λ r. ⌜ Printed jobRoom (jobText (now (table .entry)) (now (trace .entry)) (now (records .entry)) j) (now (out .entry))
+        (now (out .exit)) r ⌝ }
 {
     let time = trace[j * RELEASE_WIDTH];
     let task = trace[j * RELEASE_WIDTH + 1];
@@ -47,7 +48,8 @@ fn put_release(out: &mut [u8], table: &[u32], trace: &[u32], records: &[u32], j:
 fn put_jobs(out: &mut [u8], at: usize, table: &[u32], trace: &[u32], records: &[u32]) -> usize
     requires { ⌜ at + releaseCount (now trace) * jobRoom ≤ length (now out) ⌝ }
     requires { ⌜ ((j : ℕ) → j < releaseCount (now trace) → Stands (now table) (now trace) (now records) j) ⌝ }
-    ensures { λ r. ⌜ Listed (jobText (now (table .entry)) (now (trace .entry)) (now (records .entry))) jobRoom at (releaseCount (now (trace .entry))) (now (out .entry)) (now (out .exit)) r ⌝ }
+    ensures { λ r. ⌜ Listed (jobText (now (table .entry)) (now (trace .entry)) (now (records .entry))) jobRoom at
+        (releaseCount (now (trace .entry))) (now (out .entry)) (now (out .exit)) r ⌝ }
 {
     let n = trace.len() / RELEASE_WIDTH;
     let mut end = at;
@@ -71,7 +73,8 @@ pub fn put_report(
 ) -> usize
     requires { ⌜ printRoom ≤ length (now out) ⌝ }
     requires { ⌜ Accepted (caseOf procs policy (now table) end (now trace)) ⌝ }
-    ensures { λ r. ⌜ Printed printRoom (report (caseOf procs policy (now (table .entry)) end (now (trace .entry)))) (now (out .entry)) (now (out .exit)) r ⌝ }
+    ensures { λ r. ⌜ Printed printRoom (report (caseOf procs policy (now (table .entry)) end (now (trace .entry)))) (now (out .entry))
+        (now (out .exit)) r ⌝ }
 {
     let mut records = [0u32; RECORDS_ROOM];
     let replayed = engine::replay(procs, policy, table, end, trace, &mut records);
@@ -131,7 +134,8 @@ pub fn put_slot(
 ) -> usize
     requires { ⌜ printRoom ≤ length (now out) ⌝ }
     requires { ⌜ Accepted (caseOf procs policy (now table) end (now trace)) ⌝ }
-    ensures { λ r. ⌜ Printed printRoom (slotText (caseOf procs policy (now (table .entry)) end (now (trace .entry))) slot) (now (out .entry)) (now (out .exit)) r ⌝ }
+    ensures { λ r. ⌜ Printed printRoom (slotText (caseOf procs policy (now (table .entry)) end (now (trace .entry))) slot)
+        (now (out .entry)) (now (out .exit)) r ⌝ }
 {
     let ran = engine::running(procs, policy, table, end, trace, slot);
     match ran {
@@ -151,7 +155,8 @@ pub fn put_text(
 ) -> usize
     requires { ⌜ printRoom ≤ length (now out) ⌝ }
     requires { ⌜ Accepted (caseOf procs policy (now table) end (now trace)) ⌝ }
-    ensures { λ r. ⌜ Printed printRoom (caseText (caseOf procs policy (now (table .entry)) end (now (trace .entry)))) (now (out .entry)) (now (out .exit)) r ⌝ }
+    ensures { λ r. ⌜ Printed printRoom (caseText (caseOf procs policy (now (table .entry)) end (now (trace .entry)))) (now (out .entry))
+        (now (out .exit)) r ⌝ }
 {
     let written = writer::write(procs, policy, table, end, trace, out);
     match written {

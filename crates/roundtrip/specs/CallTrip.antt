@@ -42,7 +42,8 @@ pub record WrittenAs (c : Case) (room s : List ℕ) : Type 0 where
 
 -- ---- one call
 -- what it leaves in its rooms is the case of the text
-pub read-as : (s tasks releases : List ℕ) → readFault s (length tasks) (length releases) .number ≡ 0 → Legal (caseIn s) → ReadAs s tasks releases (caseIn s)
+pub read-as : (s tasks releases : List ℕ) → readFault s (length tasks) (length releases) .number ≡ 0 → Legal (caseIn s)
+    → ReadAs s tasks releases (caseIn s)
 unfolding readAnswer readTasks readReleases inHand caseValues
 read-as s tasks releases h w =
     let c = caseIn s in
@@ -60,12 +61,21 @@ read-as s tasks releases h w =
 
 written-as : (c : Case) (room : List ℕ) → writeFault c (length room) .number ≡ 0 → WrittenAs c room (caseText c)
 unfolding writeAnswer writeBytes
-written-as c room h = record { answer = settled-clear (writeFault c (length room)) _ h; bytes = kept-new (writeFault c (length room)) _ _ h }
+written-as c room h = record {
+  answer = settled-clear (writeFault c (length room)) _ h;
+  bytes =
+      kept-new (writeFault c (length room)) _ _ h;
+}
 
-read-clear : (s tasks releases : List ℕ) → textFault s .number ≡ 0 → maxTasks * taskWidth ≤ length tasks → maxReleases * releaseWidth ≤ length releases
+read-clear : (s tasks releases : List ℕ) → textFault s .number ≡ 0 → maxTasks * taskWidth ≤ length tasks
+    → maxReleases * releaseWidth ≤ length releases
     → readFault s (length tasks) (length releases) .number ≡ 0
 unfolding readFault roomFault orNext
-read-clear s tasks releases h p q = rw (le-leb (maxTasks * taskWidth) (length tasks) p, le-leb (maxReleases * releaseWidth) (length releases) q, h)
+read-clear s tasks releases h p q = rw (
+  le-leb (maxTasks * taskWidth) (length tasks) p,
+  le-leb (maxReleases * releaseWidth) (length releases) q,
+  h,
+)
 
 pub write-clear : (c : Case) (room : ℕ) → Accepted c → length (caseText c) ≤ room → writeFault c room .number ≡ 0
 unfolding writeFault roomFault orNext Accepted
@@ -81,10 +91,12 @@ unfolding writeAnswer writeFault Accepted
 read-written c room n tasks releases h p q =
     let a = settled-result (writeFault c (length room)) (length (caseText c) ∷ []) (n ∷ []) h in
     let e : Accepted c = next-clear (caseFault c) _ (a .0) .0 in
-    let text : take n (writeBytes c room) ≡ caseText c = ap (take n) (written-as c room (a .0) .bytes) ∙ take-first n (caseText c) _ (sym (ap (λ l. getD l 0 0) (a .1))) in
+    let text : take n (writeBytes c room) ≡ caseText c = ap (take n) (written-as c room (a .0) .bytes)
+    ∙ take-first n (caseText c) _ (sym (ap (λ l. getD l 0 0) (a .1))) in
     let same = case-written c e in
     rw text (subst (ReadAs (caseText c) tasks releases) same
-    (read-as (caseText c) tasks releases (read-clear (caseText c) tasks releases (ap (λ (f : Fault). f .number) (no-fault-written c e)) p q) (rw same (legal c e))))
+    (read-as (caseText c) tasks releases (read-clear (caseText c) tasks releases (ap (λ (f : Fault). f .number) (no-fault-written c e)) p q)
+    (rw same (legal c e))))
 
 -- what a text with its policy line takes up: a room of 60,000 bytes is always enough
 pub with-policy-fits : (s : List ℕ) → textFault s .number ≡ 0 → length (withPolicy s) ≤ maxText
@@ -103,7 +115,8 @@ write-read s tasks releases vs room h p =
     let e = case-accepted s clear in
     let text = text-read s clear in
     let hand : inHand vs (readTasks s tasks releases) (readReleases s tasks releases) ≡ caseIn s =
-    ap (λ l. inHand l (readTasks s tasks releases) (readReleases s tasks releases)) (sym (a .1)) ∙ read-as s tasks releases (a .0) (legal (caseIn s) e) .in-hand in
+    ap (λ l. inHand l (readTasks s tasks releases) (readReleases s tasks releases)) (sym (a .1))
+    ∙ read-as s tasks releases (a .0) (legal (caseIn s) e) .in-hand in
     rw hand (subst (WrittenAs (caseIn s) room) text (written-as (caseIn s) room (write-clear (caseIn s) (length room) e (rw text p))))
 
 -- ---- both calls: any answers that keep their promises
@@ -120,7 +133,8 @@ pub record Wrote (s bytes : List ℕ) (w : Written) (later : List ℕ) : Type 0 
   pub bytes-after : later ≡ s ++ drop (length s) bytes
 
 -- reading what the writer wrote gives the same case
-pub read-what-was-written : (c : Case) (bytes : List ℕ) (w : Written) (later : List ℕ) (n : ℕ) (tasks releases : List ℕ) (r : Taken) (ts rs : List ℕ)
+pub read-what-was-written : (c : Case) (bytes : List ℕ) (w : Written) (later : List ℕ) (n : ℕ) (tasks releases : List ℕ) (r : Taken)
+    (ts rs : List ℕ)
     → WritePromise c bytes w later
     → writtenAs w ≡ result (n ∷ [])
     → maxTasks * taskWidth ≤ length tasks
@@ -147,6 +161,7 @@ pub written-what-was-read : (s tasks releases : List ℕ) (r : Taken) (ts rs vs 
     → Wrote (withPolicy s) bytes w later
 written-what-was-read s tasks releases r ts rs vs bytes w later read said p promise =
     let a = write-read s tasks releases vs bytes (sym (read .answer) ∙ said) p in
-    let same : inHand vs ts rs ≡ inHand vs (readTasks s tasks releases) (readReleases s tasks releases) = ap₂ (inHand vs) (read .left-tasks) (read .left-releases) in
+    let same : inHand vs ts rs ≡ inHand vs (readTasks s tasks releases) (readReleases s tasks releases) =
+    ap₂ (inHand vs) (read .left-tasks) (read .left-releases) in
     let kept = subst (λ c. WritePromise c bytes w later) same promise in
     record { answer = kept .answer ∙ a .answer; bytes-after = kept .left ∙ a .bytes }

@@ -18,7 +18,8 @@ use Rattle.texts.specs.Fields.{All}
 use Rattle.roundtrip.specs.LineTrip.{wordOf, fieldsIn, lineBytes, Below}
 use Rattle.roundtrip.specs.Lines.{textOf, textOf-append, textOf-tab}
 use Rattle.roundtrip.specs.Lengths.{text-long}
-use Rattle.roundtrip.specs.Listed.{rowAt, releaseAt, allListed, Kind, rows-list, releases-list, listed-back, lines-back, listed-long, kinds-tab, lines-taken}
+use Rattle.roundtrip.specs.Listed.{rowAt, releaseAt, allListed, Kind, rows-list, releases-list, listed-back, lines-back, listed-long}
+use Rattle.roundtrip.specs.Listed.{kinds-tab, lines-taken}
 use Rattle.roundtrip.specs.Orders.{Tail, Body, ordered-clear}
 
 -- the task lines of a table, the release lines of a trace
@@ -38,7 +39,8 @@ case-text c =
     let rows = rowLines (c .table) in
     let releases = releaseLines (c .trace) in
     ap (λ (t : List ℕ). procsText (c .procs) ++ (policyText (c .policy) ++ t))
-    (ap₂ (λ (a b : List ℕ). a ++ (endText (c .end) ++ b)) (textOf-tab (rowAt (c .table)) 0 (taskCount (c .table))) (textOf-tab (releaseAt (c .trace)) 0 (releaseCount (c .trace)))
+    (ap₂ (λ (a b : List ℕ). a ++ (endText (c .end) ++ b)) (textOf-tab (rowAt (c .table)) 0 (taskCount (c .table)))
+    (textOf-tab (releaseAt (c .trace)) 0 (releaseCount (c .trace)))
     ∙ sym (textOf-append rows (End (c .end) ∷ releases)))
 
 -- ---- the lines of a case hold the case
@@ -51,7 +53,8 @@ releases-kind rs = kinds-tab 5 2 releaseAt releases-list rs 0 (releaseCount rs)
 pub lines-hold : (p : ℕ) (c : Case) → Legal c → withLines (noCase p) (caseLines c) ≡ c
 unfolding withLines withLine caseLines
 lines-hold p c w =
-    lines-taken (c .procs) (c .policy) (rowLines (c .table)) (c .end) (releaseLines (c .trace)) (rows-kind (c .table)) (releases-kind (c .trace))
+    lines-taken (c .procs) (c .policy) (rowLines (c .table)) (c .end) (releaseLines (c .trace)) (rows-kind (c .table))
+    (releases-kind (c .trace))
     ∙ ap₂ (λ ts rs. caseOf (c .procs) (c .policy) ts (c .end) rs)
     (listed-back 3 3 rowAt rows-list (taskCount (c .table)) (c .table) (omega (arith, w .threes)))
     (listed-back 5 2 releaseAt releases-list (releaseCount (c .trace)) (c .trace) (omega (arith, w .twos)))
@@ -63,9 +66,11 @@ lines-held m p ls t =
     let ts = allListed (t .rows) in
     let rs = allListed (t .releases) in
     let k : taskCount ts ≡ length (t .rows) = omega (arith, listed-long 3 3 rowAt rows-list (t .rows) (t .are-rows)) in
-    let n : releaseCount rs ≡ length (t .releases) = omega (arith, listed-long 5 2 releaseAt releases-list (t .releases) (t .are-releases)) in
+    let n : releaseCount rs ≡ length (t .releases) =
+    omega (arith, listed-long 5 2 releaseAt releases-list (t .releases) (t .are-releases)) in
     let a : rowLines ts ≡ t .rows = ap (tab (rowAt ts) 0) k ∙ lines-back 3 3 rowAt rows-list (t .rows) (t .are-rows) in
-    let b : releaseLines rs ≡ t .releases = ap (tab (releaseAt rs) 0) n ∙ lines-back 5 2 releaseAt releases-list (t .releases) (t .are-releases) in
+    let b : releaseLines rs ≡ t .releases = ap (tab (releaseAt rs) 0) n
+    ∙ lines-back 5 2 releaseAt releases-list (t .releases) (t .are-releases) in
     rw (t .whole)
     (ap caseLines (lines-taken m p (t .rows) (t .end) (t .releases) (t .are-rows) (t .are-releases))
     ∙ ap₂ (λ xs ys. Procs m ∷ Policy p ∷ (xs ++ (End (t .end) ∷ ys))) a b)
@@ -84,7 +89,8 @@ all-tab P f k (suc n) h = (h k (omega arith), all-tab P f (suc k) n (λ i l. h i
 -- every number of it is below a million
 row-below : (c : Case) → Legal c → (i : ℕ) → i < taskCount (c .table) → Below (10 ^ 6) (rowAt (c .table) i)
 unfolding Below rowAt
-row-below c g i h = let d = g .good i h in (omega (arith, d .small), omega (arith, d .small, d .within, d .fits), omega (arith, d .small, d .within))
+row-below c g i h = let d = g .good i h in
+    (omega (arith, d .small), omega (arith, d .small, d .within, d .fits), omega (arith, d .small, d .within))
 
 release-below : (c : Case) → Legal c → (j : ℕ) → j < releaseCount (c .trace) → Below (10 ^ 6) (releaseAt (c .trace) j)
 unfolding Below releaseAt
@@ -94,8 +100,10 @@ pub lines-below : (c : Case) → Legal c → All (Below (10 ^ 6)) (caseLines c)
 unfolding caseLines All Below
 lines-below c g =
     let rows = all-tab (Below (10 ^ 6)) (rowAt (c .table)) 0 (taskCount (c .table)) (λ i h. row-below c g i (omega arith)) in
-    let releases = all-tab (Below (10 ^ 6)) (releaseAt (c .trace)) 0 (releaseCount (c .trace)) (λ j h. release-below c g j (omega arith)) in
-    (omega (arith, g .procs-few), (g .policy-known, all-append (Below (10 ^ 6)) (rowLines (c .table)) _ rows (omega (arith, g .end-small), releases)))
+    let releases =
+    all-tab (Below (10 ^ 6)) (releaseAt (c .trace)) 0 (releaseCount (c .trace)) (λ j h. release-below c g j (omega arith)) in
+    let below = Below (10 ^ 6) in
+    (omega (arith, g .procs-few), (g .policy-known, all-append below (rowLines (c .table)) _ rows (omega (arith, g .end-small), releases)))
 
 -- its lines are in order
 lines-body : (c : Case) → Legal c → Body (rowLines (c .table) ++ (End (c .end) ∷ releaseLines (c .trace)))

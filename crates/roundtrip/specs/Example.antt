@@ -5,10 +5,13 @@ use mathlib.Core.List.{List, [], _∷_, _++_}
 use Prim.Native.Nat.{ℕ}
 use Rattle.rules.specs.Words.{tab}
 use Rattle.rules.specs.Case.{caseOf}
-use Rattle.rules.specs.Refusals.{noFault, orNext, firstOf, procsFault, policyFault, tableFault, taskFault, endFault, traceFault, inOrder, lastBefore, releaseFault, caseFault}
-use Rattle.rules.specs.Text.{same, upTo, past, has, lineOf, afterLine, fieldOf, afterField, allDigits, noLeadingZero, isNumber, worth, numberIn, digitsIn, digitsOf, procsWord, policyWord, taskWord, endWord, releaseWord}
+use Rattle.rules.specs.Refusals.{noFault, orNext, firstOf, procsFault, policyFault, tableFault, taskFault, endFault, traceFault, inOrder}
+use Rattle.rules.specs.Refusals.{lastBefore, releaseFault, caseFault}
+use Rattle.rules.specs.Text.{same, upTo, past, has, lineOf, afterLine, fieldOf, afterField, allDigits, noLeadingZero, isNumber, worth}
+use Rattle.rules.specs.Text.{numberIn, digitsIn, digitsOf, procsWord, policyWord, taskWord, endWord, releaseWord}
 use Rattle.rules.specs.Policies.{edf, edfWord, policyName}
-use Rattle.rules.specs.Reader.{oneNumber, twoNumbers, threeNumbers, wordKind, fieldsSay, lineSays, linesIn, linesOf, mayFollow, mayStop, linesFault, withLine, withLines, caseWithDefault, caseIn, lengthFault, textFault}
+use Rattle.rules.specs.Reader.{oneNumber, twoNumbers, threeNumbers, wordKind, fieldsSay, lineSays, linesIn, linesOf, mayFollow, mayStop}
+use Rattle.rules.specs.Reader.{linesFault, withLine, withLines, caseWithDefault, caseIn, lengthFault, textFault}
 use Rattle.rules.specs.Writer.{joinedText, moreFields, lineText, procsText, policyText, taskText, endText, releaseText, caseText}
 use Rattle.roundtrip.specs.RoundTrip.{policyGiven, withPolicy}
 
@@ -31,13 +34,16 @@ abbrev pub full-text : List ℕ
 full-text = first-line ++ (policy-line ++ other-lines)
 
 pub short-accepted : textFault short-text ≡ noFault
-unfolding same upTo past has lineOf afterLine fieldOf afterField allDigits noLeadingZero isNumber worth numberIn oneNumber twoNumbers threeNumbers wordKind
-    fieldsSay lineSays linesIn linesOf mayFollow mayStop linesFault withLine withLines caseWithDefault caseIn lengthFault textFault orNext firstOf procsFault policyFault
+unfolding same upTo past has lineOf afterLine fieldOf afterField allDigits noLeadingZero isNumber worth numberIn oneNumber twoNumbers
+    threeNumbers wordKind
+    fieldsSay lineSays linesIn linesOf mayFollow mayStop linesFault withLine withLines caseWithDefault caseIn lengthFault textFault orNext
+    firstOf procsFault policyFault
     tableFault taskFault endFault traceFault inOrder lastBefore releaseFault caseFault
 short-accepted = refl
 
 pub short-case : caseIn short-text ≡ caseOf 1 edf (5 ∷ 1 ∷ 5 ∷ []) 5 (0 ∷ 1 ∷ [])
-unfolding same upTo past has lineOf afterLine fieldOf afterField allDigits noLeadingZero isNumber worth numberIn oneNumber twoNumbers threeNumbers wordKind
+unfolding same upTo past has lineOf afterLine fieldOf afterField allDigits noLeadingZero isNumber worth numberIn oneNumber twoNumbers
+    threeNumbers wordKind
     fieldsSay lineSays linesIn linesOf withLine withLines caseWithDefault caseIn
 short-case = refl
 

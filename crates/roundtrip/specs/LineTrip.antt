@@ -8,7 +8,8 @@ use native.Mathlib.Omega.{arith}
 use lib.ListN.{length}
 use Rattle.rules.specs.declared.Line.{Line}
 use Rattle.rules.specs.declared.Line.the-variants.{Bad, Procs, Policy, Row, End, Release}
-use Rattle.rules.specs.Text.{newlineByte, tabByte, same, has, fieldOf, afterField, digitsOf, procsWord, policyWord, taskWord, endWord, releaseWord}
+use Rattle.rules.specs.Text.{newlineByte, tabByte, same, has, fieldOf, afterField, digitsOf, procsWord, policyWord, taskWord, endWord}
+use Rattle.rules.specs.Text.{releaseWord}
 use Rattle.rules.specs.Policies.{maxPolicy, policyName}
 use Rattle.rules.specs.Reader.{withNumber, oneNumber, twoNumbers, threeNumbers, policyIn, wordKind, fieldsSay, lineSays, kindOf}
 use Rattle.rules.specs.Writer.{lineText}
@@ -98,7 +99,8 @@ one-written a say h = rw (written-reads a h)
 more-written : (a : ℕ) (g : List ℕ) (gs : List (List ℕ)) (next : List ℕ → ℕ → Line) → a < 10 ^ 9
     → let s = parted (digitsOf a) (g ∷ gs) in oneNumber (fieldOf s) (next (afterField s)) ≡ next (parted g gs) a
 more-written a g gs next h =
-    rw (field-first (digitsOf a) (g ∷ gs) (digits-plain a), field-others (digitsOf a) g gs (digits-plain a)) (one-written a (next (parted g gs)) h)
+    rw (field-first (digitsOf a) (g ∷ gs) (digits-plain a), field-others (digitsOf a) g gs (digits-plain a))
+    (one-written a (next (parted g gs)) h)
 
 two-written : (a b : ℕ) (say : ℕ → ℕ → Line) → a < 10 ^ 9 → b < 10 ^ 9 → twoNumbers (parted (digitsOf a) (digitsOf b ∷ [])) say ≡ say a b
 unfolding oneNumber twoNumbers parted
@@ -138,9 +140,11 @@ unfolding lineBody fieldsIn Below fieldsSay parted
 written-says b Bad h k = absurd k
 written-says b (Procs m) h k = parted-says (Procs m) (digitsOf m) [] ∙ one-written m Procs (omega arith)
 written-says b (Policy p) h k = parted-says (Policy p) (policyName p) [] ∙ policy-written p k
-written-says b (Row T C D) h k = parted-says (Row T C D) (digitsOf T) (digitsOf C ∷ digitsOf D ∷ []) ∙ three-written T C D Row (omega (arith, k .0)) (omega (arith, k .1)) (omega (arith, k .2))
+written-says b (Row T C D) h k = parted-says (Row T C D) (digitsOf T) (digitsOf C ∷ digitsOf D ∷ [])
+    ∙ three-written T C D Row (omega (arith, k .0)) (omega (arith, k .1)) (omega (arith, k .2))
 written-says b (End e) h k = parted-says (End e) (digitsOf e) [] ∙ one-written e End (omega arith)
-written-says b (Release t n) h k = parted-says (Release t n) (digitsOf t) (digitsOf n ∷ []) ∙ two-written t n Release (omega (arith, k .0)) (omega (arith, k .1))
+written-says b (Release t n) h k = parted-says (Release t n) (digitsOf t) (digitsOf n ∷ [])
+    ∙ two-written t n Release (omega (arith, k .0)) (omega (arith, k .1))
 
 -- ---- read, then written
 -- what is true of a badly formed line and of each line that the numbers written in s say is true of what s says
@@ -160,7 +164,8 @@ three-read : (P : Line → Type 0) (s : List ℕ) (say : ℕ → ℕ → ℕ →
 unfolding threeNumbers fieldOf afterField oneNumber
 three-read P s say bad good =
     one-read P (fieldOf s) (λ a. twoNumbers (afterField s) (say a)) bad
-    (λ a p. two-read P (afterField s) (say a) bad (λ b d q. good a b d (parted-cons s (digitsOf a) (digitsOf b) (digitsOf d ∷ []) p q (digits-some b))))
+    (λ a p. two-read P (afterField s) (say a) bad
+    (λ b d q. good a b d (parted-cons s (digitsOf a) (digitsOf b) (digitsOf d ∷ []) p q (digits-some b))))
 
 policy-read : (P : Line → Type 0) (s : List ℕ) → P Bad → ((p : ℕ) → p ≤ maxPolicy → s ≡ policyName p → P (Policy p)) → P (policyIn s)
 unfolding policyIn
@@ -178,7 +183,8 @@ returns-fields : (s : List ℕ) (l : Line) (g : List ℕ) (gs : List (List ℕ))
     → same (fieldOf s) (wordOf l) ≡ true → afterField s ≡ parted g gs → 1 ≤ length g → fieldsIn l ≡ g ∷ gs → Returns s l
 unfolding fieldOf afterField lineBody
 returns-fields s l g gs p q n e h =
-    bytes-body l ∙ ap (λ (t : List ℕ). t ++ (newlineByte ∷ [])) (ap (parted (wordOf l)) e ∙ sym (parted-cons s (wordOf l) g gs (same-true (fieldOf s) (wordOf l) p) q n))
+    bytes-body l ∙ ap (λ (t : List ℕ). t ++ (newlineByte ∷ []))
+    (ap (parted (wordOf l)) e ∙ sym (parted-cons s (wordOf l) g gs (same-true (fieldOf s) (wordOf l) p) q n))
 
 -- a line that is not badly formed is what is written of what it says
 pub says-written : (s : List ℕ) → Returns s (lineSays s)
@@ -188,8 +194,15 @@ says-written s =
     let f = afterField s in
     let bad = returns-bad s in
     let Kind : ℕ → Type 0 = λ k. Returns s (fieldsSay k f) in
-    picked Kind (same w procsWord) _ _ (λ e. one-read (Returns s) f Procs bad (λ a q. returns-fields s (Procs a) (digitsOf a) [] e q (digits-some a) refl))
-    (λ _. picked Kind (same w policyWord) _ _ (λ e. policy-read (Returns s) f bad (λ p k q. returns-fields s (Policy p) (policyName p) [] e q (name-some p k) refl))
-    (λ _. picked Kind (same w taskWord) _ _ (λ e. three-read (Returns s) f Row bad (λ a b d q. returns-fields s (Row a b d) (digitsOf a) (digitsOf b ∷ digitsOf d ∷ []) e q (digits-some a) refl))
-    (λ _. picked Kind (same w endWord) _ _ (λ e. one-read (Returns s) f End bad (λ a q. returns-fields s (End a) (digitsOf a) [] e q (digits-some a) refl))
-    (λ _. picked Kind (same w releaseWord) _ _ (λ e. two-read (Returns s) f Release bad (λ a b q. returns-fields s (Release a b) (digitsOf a) (digitsOf b ∷ []) e q (digits-some a) refl)) (λ _. bad)))))
+    picked Kind (same w procsWord) _ _ (λ e. one-read (Returns s) f Procs bad (λ a q. returns-fields s (Procs a)
+    (digitsOf a) [] e q (digits-some a) refl))
+    (λ _. picked Kind (same w policyWord) _ _
+    (λ e. policy-read (Returns s) f bad (λ p k q. returns-fields s (Policy p) (policyName p) [] e q (name-some p k) refl))
+    (λ _. picked Kind (same w taskWord) _ _
+    (λ e. three-read (Returns s) f Row bad (λ a b d q. returns-fields s (Row a b d) (digitsOf a)
+    (digitsOf b ∷ digitsOf d ∷ []) e q (digits-some a) refl))
+    (λ _. picked Kind (same w endWord) _ _
+    (λ e. one-read (Returns s) f End bad (λ a q. returns-fields s (End a) (digitsOf a) [] e q (digits-some a) refl))
+    (λ _. picked Kind (same w releaseWord) _ _
+    (λ e. two-read (Returns s) f Release bad (λ a b q. returns-fields s (Release a b) (digitsOf a)
+    (digitsOf b ∷ []) e q (digits-some a) refl)) (λ _. bad)))))

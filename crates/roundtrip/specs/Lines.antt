@@ -14,7 +14,8 @@ use Rattle.rules.specs.Reader.{lineSays, linesIn, linesOf}
 use Rattle.rules.specs.Writer.{joinedText}
 use Rattle.texts.specs.Fields.{All, parted-no-newline}
 use Rattle.texts.specs.LinesOf.{line-cut, afterLine-less, lineOf-cons, afterLine-cons, linesOf-nil, linesOf-cons}
-use Rattle.roundtrip.specs.LineTrip.{wordOf, fieldsIn, lineBody, lineBytes, bytes-body, Said, word-plain, fields-plain, Below, written-says, says-written}
+use Rattle.roundtrip.specs.LineTrip.{wordOf, fieldsIn, lineBody, lineBytes, bytes-body, Said, word-plain, fields-plain, Below}
+use Rattle.roundtrip.specs.LineTrip.{written-says, says-written}
 
 -- ---- the text of lines
 unfoldable pub textOf : List Line → List ℕ
@@ -24,7 +25,8 @@ textOf (l ∷ ls) = lineBytes l ++ textOf ls
 pub textOf-append : (ls ms : List Line) → textOf (ls ++ ms) ≡ textOf ls ++ textOf ms
 unfolding textOf
 textOf-append [] ms = refl
-textOf-append (l ∷ ls) ms = ap (λ (t : List ℕ). lineBytes l ++ t) (textOf-append ls ms) ∙ sym (append-assoc (lineBytes l) (textOf ls) (textOf ms))
+textOf-append (l ∷ ls) ms = ap (λ (t : List ℕ). lineBytes l ++ t) (textOf-append ls ms)
+    ∙ sym (append-assoc (lineBytes l) (textOf ls) (textOf ms))
 
 pub textOf-tab : (f : ℕ → Line) (k n : ℕ) → joinedText (tab (λ i. lineBytes (f i)) k n) ≡ textOf (tab f k n)
 unfolding textOf joinedText tab
@@ -51,7 +53,8 @@ pub lines-written : (b : ℕ) (ls : List Line) → b ≤ 10 ^ 9 → All (Below b
 unfolding All textOf
 lines-written b [] h a = linesOf-nil
 lines-written b (l ∷ ls) h a =
-    ap linesOf (textOf-cons l ls) ∙ linesOf-cons (lineBody l) (textOf ls) (body-no-newline l) ∙ ap₂ _∷_ (written-says b l h (a .0)) (lines-written b ls h (a .1))
+    ap linesOf (textOf-cons l ls) ∙ linesOf-cons (lineBody l) (textOf ls) (body-no-newline l)
+    ∙ ap₂ _∷_ (written-says b l h (a .0)) (lines-written b ls h (a .1))
 
 -- lines that are read and written
 lines-returned : (k : ℕ) (s : List ℕ) → length s ≤ k → All Said (linesIn k s) → textOf (linesIn k s) ≡ s
@@ -63,7 +66,8 @@ lines-returned (suc k) (b ∷ s) h a =
     let m = afterLine-less b s in
     go (has newlineByte (b ∷ s)) refl (a .0) (lines-returned k (afterLine (b ∷ s)) (omega arith) (a .1))
   where
-    go : (t : Bool) → has newlineByte (b ∷ s) ≡ t → Said (pick t (lineSays (lineOf (b ∷ s))) Bad) → textOf (linesIn k (afterLine (b ∷ s))) ≡ afterLine (b ∷ s)
+    go : (t : Bool) → has newlineByte (b ∷ s) ≡ t → Said (pick t (lineSays (lineOf (b ∷ s))) Bad)
+        → textOf (linesIn k (afterLine (b ∷ s))) ≡ afterLine (b ∷ s)
         → lineBytes (pick t (lineSays (lineOf (b ∷ s))) Bad) ++ textOf (linesIn k (afterLine (b ∷ s))) ≡ b ∷ s
     go true e said more =
         ap (λ (t : List ℕ). t ++ textOf (linesIn k (afterLine (b ∷ s)))) (says-written (lineOf (b ∷ s)) said)

@@ -99,7 +99,11 @@ rows-list = record {
   kind = λ xs i. refl;
   wide = λ l h. ap (λ z. length (listed z)) (is-row l h .3);
   there = λ xs i h.
-      rw (next-at xs (i * 3) (i * 3 + 1) (omega arith) (omega arith), next-at xs (i * 3 + 1) (i * 3 + 2) (omega arith) (omega arith), next-at xs (i * 3 + 2) (i * 3 + 3) (omega arith) (omega arith));
+      rw (
+        next-at xs (i * 3) (i * 3 + 1) (omega arith) (omega arith),
+        next-at xs (i * 3 + 1) (i * 3 + 2) (omega arith) (omega arith),
+        next-at xs (i * 3 + 2) (i * 3 + 3) (omega arith) (omega arith),
+      );
   back = λ xs l ys i h n.
       let (T, C, D, e) = is-row l h in
       let at = past-seam-at xs (T ∷ C ∷ D ∷ ys) (i * 3) in
@@ -129,17 +133,25 @@ module _ (k w : ℕ) (at : List ℕ → ℕ → Line) (lists : Lists k w at) whe
       ∙ rw (suc-mul i w) (sym (lists .there xs i (omega (arith, suc-mul n w))))
 
   -- and the numbers that lines list make these lines
-  tab-listed : (ls : List Line) (i : ℕ) (xs : List ℕ) → All (Kind k) ls → length xs ≡ i * w → tab (at (xs ++ allListed ls)) i (length ls) ≡ ls
+  tab-listed : (ls : List Line) (i : ℕ) (xs : List ℕ) → All (Kind k) ls → length xs ≡ i * w
+      → tab (at (xs ++ allListed ls)) i (length ls) ≡ ls
   unfolding allListed tab All
   tab-listed [] i xs a h = refl
   tab-listed (l ∷ ls) i xs a h =
       ap₂ _∷_ (lists .back xs l (allListed ls) i (a .0) h)
-      (rw (← append-assoc xs (listed l) (allListed ls)) (tab-listed ls (suc i) (xs ++ listed l) (a .1) (omega (arith, length-append xs (listed l), lists .wide l (a .0), suc-mul i w))))
+      (rw (← append-assoc xs (listed l) (allListed ls))
+      (tab-listed ls (suc i) (xs ++ listed l) (a .1) (omega (arith, length-append xs (listed l), lists .wide l (a .0), suc-mul i w))))
 
   pub listed-long : (ls : List Line) → All (Kind k) ls → length (allListed ls) ≡ length ls * w
   unfolding allListed All
   listed-long [] a = omega arith
-  listed-long (l ∷ ls) a = omega (arith, length-append (listed l) (allListed ls), lists .wide l (a .0), listed-long ls (a .1), suc-mul (length ls) w)
+  listed-long (l ∷ ls) a = omega (
+    arith,
+    length-append (listed l) (allListed ls),
+    lists .wide l (a .0),
+    listed-long ls (a .1),
+    suc-mul (length ls) w,
+  )
 
   pub kinds-tab : (xs : List ℕ) (i n : ℕ) → All (Kind k) (tab (at xs) i n)
   unfolding All tab
@@ -188,7 +200,8 @@ module _ (k : ℕ) (one : (c : Case) (l : Line) → Kind k l → withLine c l �
   adding-all : (c : Case) (ls : List Line) → All (Kind k) ls → withLines c ls ≡ adding k c (allListed ls)
   unfolding withLines allListed All
   adding-all c [] a = adding-none k c
-  adding-all c (l ∷ ls) a = ap (λ z. withLines z ls) (one c l (a .0)) ∙ adding-all (adding k c (listed l)) ls (a .1) ∙ adding-more k c (listed l) (allListed ls)
+  adding-all c (l ∷ ls) a = ap (λ z. withLines z ls) (one c l (a .0)) ∙ adding-all (adding k c (listed l)) ls (a .1)
+      ∙ adding-more k c (listed l) (allListed ls)
 
 withLines-append : (c : Case) (ls ms : List Line) → withLines c (ls ++ ms) ≡ withLines (withLines c ls) ms
 unfolding withLines

@@ -46,7 +46,8 @@ clear before n l ls h =
     }
 
 fault-next : (before n k : ℕ) (l : Line) (ls : List Line)
-    → Kind (suc k) l → mayFollow before (suc k) ≡ true → linesFault caseOrder (suc k) (suc n) ls ≡ noFault → linesFault caseOrder before n (l ∷ ls) ≡ noFault
+    → Kind (suc k) l → mayFollow before (suc k) ≡ true → linesFault caseOrder (suc k) (suc n) ls ≡ noFault
+    → linesFault caseOrder before n (l ∷ ls) ≡ noFault
 unfolding linesFault orNext
 fault-next before n k l ls e f g = rw (e, ne-eqb (suc k) 0 (λ z. omega arith), f, g)
 
@@ -96,7 +97,8 @@ tail-of n (l ∷ ls) h =
     let c = clear 3 n l ls h in
     go (tail-of (suc n) ls) (c .rest) (one-of (kindOf l) 3 4 (simp or-false at (c .follows)))
   where
-    go : (linesFault caseOrder 3 (suc n) ls .number ≡ 0 → Tail ls) → linesFault caseOrder (kindOf l) (suc n) ls .number ≡ 0 → Kind 3 l ⊎ Kind 4 l → Tail (l ∷ ls)
+    go : (linesFault caseOrder 3 (suc n) ls .number ≡ 0 → Tail ls) → linesFault caseOrder (kindOf l) (suc n) ls .number ≡ 0
+        → Kind 3 l ⊎ Kind 4 l → Tail (l ∷ ls)
     go more rest (inl e) = tail-more l ls e (more (rw e at rest))
     go more rest (inr e) =
         record {
@@ -108,7 +110,8 @@ tail-of n (l ∷ ls) h =
           whole = ap (λ z. z ∷ ls) (is-end l e .1);
         }
 
-rows-clear : (rows ls : List Line) → All (Kind 3) rows → ((n : ℕ) → linesFault caseOrder 3 n ls ≡ noFault) → (n : ℕ) → linesFault caseOrder 3 n (rows ++ ls) ≡ noFault
+rows-clear : (rows ls : List Line) → All (Kind 3) rows → ((n : ℕ) → linesFault caseOrder 3 n ls ≡ noFault) → (n : ℕ)
+    → linesFault caseOrder 3 n (rows ++ ls) ≡ noFault
 unfolding All mayFollow
 rows-clear [] ls a h n = h n
 rows-clear (l ∷ rows) ls a h n = fault-next 3 n 2 l (rows ++ ls) (a .0) refl (rows-clear rows ls (a .1) h (suc n))
@@ -116,9 +119,11 @@ rows-clear (l ∷ rows) ls a h n = fault-next 3 n 2 l (rows ++ ls) (a .0) refl (
 tail-clear : (ls : List Line) → Tail ls → (n : ℕ) → linesFault caseOrder 3 n ls ≡ noFault
 unfolding mayFollow
 tail-clear ls t n =
-    let releases : (n : ℕ) → linesFault caseOrder 4 n (t .releases) ≡ noFault = λ n. end-release n (t .releases) ∙ releases-clear n (t .releases) (t .are-releases) in
+    let releases : (n : ℕ) → linesFault caseOrder 4 n (t .releases) ≡ noFault =
+    λ n. end-release n (t .releases) ∙ releases-clear n (t .releases) (t .are-releases) in
     rw (t .whole)
-    (rows-clear (t .rows) (End (t .end) ∷ t .releases) (t .are-rows) (λ n. fault-next 3 n 3 (End (t .end)) (t .releases) refl refl (releases (suc n))) n)
+    (rows-clear (t .rows) (End (t .end) ∷ t .releases) (t .are-rows)
+    (λ n. fault-next 3 n 3 (End (t .end)) (t .releases) refl refl (releases (suc n))) n)
 
 -- ---- after processors and policy: one task or more, the end, releases
 pub record Body (ls : List Line) : Type 0 where
@@ -137,7 +142,8 @@ body-of n l ls e h = record { task = l; others = ls; is-task = e; tail = tail-of
 body-after-policy : (n : ℕ) (ls : List Line) → linesFault caseOrder 2 n ls .number ≡ 0 → Body ls
 unfolding linesFault mayFollow mayStop
 body-after-policy n [] h = absurd (omega arith)
-body-after-policy n (l ∷ ls) h = let c = clear 2 n l ls h in body-of n l ls (eqb-true (kindOf l) 3 (simp or-false at (c .follows))) (c .rest)
+body-after-policy n (l ∷ ls) h = let c = clear 2 n l ls h in
+    body-of n l ls (eqb-true (kindOf l) 3 (simp or-false at (c .follows))) (c .rest)
 
 body-clear : (ls : List Line) → Body ls → (n : ℕ) → linesFault caseOrder 2 n ls ≡ noFault
 unfolding mayFollow

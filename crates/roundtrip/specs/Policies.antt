@@ -13,7 +13,8 @@ use Rattle.rules.specs.Case.{Case}
 use Rattle.rules.specs.Refusals.{noFault, policyFault}
 use Rattle.rules.specs.Text.{newlineByte, has, lineOf, afterLine, fieldOf, afterField, numberIn}
 use Rattle.rules.specs.Policies.{edf, maxPolicy}
-use Rattle.rules.specs.Reader.{withNumber, oneNumber, twoNumbers, threeNumbers, policyIn, wordKind, fieldsSay, lineSays, linesIn, linesOf, policyWhenAbsent, noCase, withLine, withLines, caseWithDefault, caseIn}
+use Rattle.rules.specs.Reader.{withNumber, oneNumber, twoNumbers, threeNumbers, policyIn, wordKind, fieldsSay, lineSays, linesIn, linesOf}
+use Rattle.rules.specs.Reader.{policyWhenAbsent, noCase, withLine, withLines, caseWithDefault, caseIn}
 use Rattle.texts.specs.PolicyNames.{name-read}
 use Rattle.rules.specs.declared.Num.{Num}
 use Rattle.rules.specs.declared.Num.the-variants as Num·
@@ -44,12 +45,14 @@ one-known s say h = number-known (numberIn s) say h
 
 two-known : (s : List ℕ) (say : ℕ → ℕ → Line) → ((a b : ℕ) → policyIs (say a b) ≤ maxPolicy) → policyIs (twoNumbers s say) ≤ maxPolicy
 unfolding twoNumbers
-two-known s say h = number-known (numberIn (fieldOf s)) (λ a. oneNumber (afterField s) (say a)) (λ a. one-known (afterField s) (say a) (h a))
+two-known s say h = number-known (numberIn (fieldOf s)) (λ a. oneNumber (afterField s) (say a))
+    (λ a. one-known (afterField s) (say a) (h a))
 
 three-known : (s : List ℕ) (say : ℕ → ℕ → ℕ → Line) → ((a b d : ℕ) → policyIs (say a b d) ≤ maxPolicy)
     → policyIs (threeNumbers s say) ≤ maxPolicy
 unfolding threeNumbers
-three-known s say h = number-known (numberIn (fieldOf s)) (λ a. twoNumbers (afterField s) (say a)) (λ a. two-known (afterField s) (say a) (h a))
+three-known s say h = number-known (numberIn (fieldOf s)) (λ a. twoNumbers (afterField s) (say a))
+    (λ a. two-known (afterField s) (say a) (h a))
 
 name-known : (s : List ℕ) → policyIs (policyIn s) ≤ maxPolicy
 unfolding policyIn

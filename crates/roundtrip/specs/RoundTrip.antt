@@ -16,7 +16,8 @@ use Rattle.rules.specs.Limits.{maxText}
 use Rattle.rules.specs.Case.{Case, caseOf}
 use Rattle.rules.specs.Refusals.{noFault, orNext, caseFault, Accepted}
 use Rattle.rules.specs.Text.{newlineByte, lineOf, afterLine, fieldOf}
-use Rattle.rules.specs.Reader.{wordKind, linesOf, kindOf, caseOrder, linesFault, policyWhenAbsent, noCase, withLine, withLines, caseWithDefault, caseIn, lengthFault, textFault}
+use Rattle.rules.specs.Reader.{wordKind, linesOf, kindOf, caseOrder, linesFault, policyWhenAbsent, noCase, withLine, withLines}
+use Rattle.rules.specs.Reader.{caseWithDefault, caseIn, lengthFault, textFault}
 use Rattle.rules.specs.Writer.{policyText, caseText}
 use Rattle.legal.specs.Legal.{next-clear, legal}
 use Rattle.roundtrip.specs.LineTrip.{wordOf, fieldsIn, lineBytes, body-kind}
@@ -53,7 +54,8 @@ given-second : (k l : Line) (ls : List Line) → policyGiven (textOf (k ∷ l �
 unfolding policyGiven
 given-second k l ls = rw (afterLine-text k (l ∷ ls), lineOf-text l ls, body-kind l)
 
-policy-put-in : (k l : Line) (ls : List Line) → kindOf l ≡ 3 → withPolicy (textOf (k ∷ l ∷ ls)) ≡ textOf (k ∷ Policy policyWhenAbsent ∷ l ∷ ls)
+policy-put-in : (k l : Line) (ls : List Line) → kindOf l ≡ 3
+    → withPolicy (textOf (k ∷ l ∷ ls)) ≡ textOf (k ∷ Policy policyWhenAbsent ∷ l ∷ ls)
 unfolding withPolicy textOf policyText lineBytes wordOf fieldsIn
 policy-put-in k l ls e =
     rw (given-second k l ls, e, lineOf-text k (l ∷ ls), afterLine-text k (l ∷ ls)) (sym (textOf-cons k (Policy policyWhenAbsent ∷ l ∷ ls)))
@@ -70,10 +72,12 @@ text-ordered ls o = go (o .whole)
     held : (p : ℕ) → caseText (withLines (caseOf (o .procs) p [] 0 []) (o .after)) ≡ textOf (Procs (o .procs) ∷ Policy p ∷ o .after)
     held p = case-text _ ∙ ap textOf (lines-held (o .procs) p (o .after) (body-tail (o .after) (o .body)))
 
-    go : ((p : ℕ) × (ls ≡ Procs (o .procs) ∷ Policy p ∷ o .after)) ⊎ (ls ≡ Procs (o .procs) ∷ o .after) → caseText (withLines (noCase policyWhenAbsent) ls) ≡ withPolicy (textOf ls)
+    go : ((p : ℕ) × (ls ≡ Procs (o .procs) ∷ Policy p ∷ o .after)) ⊎ (ls ≡ Procs (o .procs) ∷ o .after)
+        → caseText (withLines (noCase policyWhenAbsent) ls) ≡ withPolicy (textOf ls)
     go (inl (p, e)) = rw e (held p ∙ sym (policy-there (Procs (o .procs)) p (o .after)))
     go (inr e) =
-        rw e (held policyWhenAbsent ∙ rw (o .body .whole) (sym (policy-put-in (Procs (o .procs)) (o .body .task) (o .body .others) (o .body .is-task))))
+        rw e (held policyWhenAbsent ∙ rw (o .body .whole)
+        (sym (policy-put-in (Procs (o .procs)) (o .body .task) (o .body .others) (o .body .is-task))))
 
 -- a text in which the reader finds no fault: no line is at fault, and its case is accepted
 lines-no-fault : (s : List ℕ) → textFault s .number ≡ 0 → linesFault caseOrder 0 1 (linesOf s) .number ≡ 0
@@ -82,7 +86,8 @@ lines-no-fault s h = next-clear (linesFault caseOrder 0 1 (linesOf s)) _ (next-c
 
 pub case-accepted : (s : List ℕ) → textFault s .number ≡ 0 → Accepted (caseIn s)
 unfolding textFault Accepted
-case-accepted s h = next-clear (caseFault (caseIn s)) _ (next-clear (linesFault caseOrder 0 1 (linesOf s)) _ (next-clear (lengthFault s) _ h .1) .1) .0
+case-accepted s h = next-clear (caseFault (caseIn s)) _
+    (next-clear (linesFault caseOrder 0 1 (linesOf s)) _ (next-clear (lengthFault s) _ h .1) .1) .0
 
 -- the same text, but for the policy line where it was absent
 pub text-read : (s : List ℕ) → textFault s .number ≡ 0 → caseText (caseIn s) ≡ withPolicy s

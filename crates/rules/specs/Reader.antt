@@ -10,7 +10,8 @@ use Rattle.rules.specs.Limits.{maxTasks, maxReleases, maxText, taskWidth
 use Rattle.rules.specs.Case.{Case, caseOf, taskCount, releaseCount}
 use Rattle.rules.specs.Refusals.{noFault, unless, orNext, first, roomFault, caseFault}
 use Rattle.rules.specs.Answers.{Answer, settled, kept}
-use Rattle.rules.specs.Text.{newlineByte, same, has, lineOf, afterLine, fieldOf, afterField, numberIn, procsWord, policyWord, taskWord, endWord, releaseWord}
+use Rattle.rules.specs.Text.{newlineByte, same, has, lineOf, afterLine, fieldOf, afterField, numberIn, procsWord, policyWord}
+use Rattle.rules.specs.Text.{taskWord, endWord, releaseWord}
 use Rattle.rules.specs.Policies.{edf, policyOf}
 use Rattle.rules.specs.declared.Fault.{Fault}
 use Rattle.rules.specs.declared.Num.{Num}

@@ -7,7 +7,8 @@ use lib.Dec.{eqb, leb}
 use Rattle.rules.specs.Words.{pick, bit, firstIn, tab}
 use Rattle.rules.specs.Limits.{maxTasks}
 use Rattle.rules.specs.Case.{Case, deadline, releaseCount, timeOf, nameOf}
-use Rattle.rules.specs.Slot.{Setup, TaskSet, setupOf, runOf, judged, readied, demoted, contentionFree, present, after, ran, finished, missed, demotedNow, setNumber}
+use Rattle.rules.specs.Slot.{Setup, TaskSet, setupOf, runOf, judged, readied, demoted, contentionFree, present, after, ran, finished}
+use Rattle.rules.specs.Slot.{missed, demotedNow, setNumber}
 use Rattle.rules.specs.declared.Job.the-variants.{Idle}
 use Rattle.rules.specs.declared.Task.{Task}
 use Rattle.rules.specs.declared.Run.{Run}

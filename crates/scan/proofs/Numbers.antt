@@ -30,7 +30,8 @@ unfolding numberIn isNumber
 bad-digit s h = rw (h, and-false)
 
 -- ---- what is one
-pub good : (s : List ℕ) (v : ℕ) → 1 ≤ length s → length s ≤ 9 → noLeadingZero s ≡ true → allDigits s ≡ true → worth 0 s ≡ v → Value v ≡ numberIn s
+pub good : (s : List ℕ) (v : ℕ) → 1 ≤ length s → length s ≤ 9 → noLeadingZero s ≡ true → allDigits s ≡ true → worth 0 s ≡ v
+    → Value v ≡ numberIn s
 unfolding numberIn isNumber
 good s v a b p d w = rw (le-leb 1 (length s) a, le-leb (length s) 9 b, p, d, w)
 

@@ -51,17 +51,20 @@ upTo-le x (b ∷ s) = le-pick (eqb b x) b (upTo x s) s (upTo-le x s)
 pub here : (s : List ℕ) (i x : ℕ) → i < length s → getD s i 0 ≡ x → length (upTo x (drop i s)) ≡ 0
 here s i x h e = ap length (upTo-hit s i x h e)
 
-pub not-here : (s : List ℕ) (i x : ℕ) → i < length s → (getD s i 0 ≡ x → ⊥) → length (upTo x (drop i s)) ≡ suc (length (upTo x (drop (i + 1) s)))
+pub not-here : (s : List ℕ) (i x : ℕ) → i < length s → (getD s i 0 ≡ x → ⊥)
+    → length (upTo x (drop i s)) ≡ suc (length (upTo x (drop (i + 1) s)))
 not-here s i x h e = ap length (upTo-miss s i x h e)
 
 pub nothing-left : (s : List ℕ) (i x : ℕ) → length s ≤ i → length (upTo x (drop i s)) ≡ 0
 nothing-left s i x h = ap (λ (l : List ℕ). length (upTo x l)) (drop-of-length-le s h) ∙ ap length (upTo-none x)
 
 -- the part from `from` to the end that `seek` finds
-pub part-upTo : (x from e : ℕ) (s : List ℕ) → e ≡ from + length (upTo x (drop from s)) → take (e - from) (drop from s) ≡ upTo x (drop from s)
+pub part-upTo : (x from e : ℕ) (s : List ℕ) → e ≡ from + length (upTo x (drop from s))
+    → take (e - from) (drop from s) ≡ upTo x (drop from s)
 part-upTo x from e s h = rw (h, add-sub-cancel-left) (take-upTo x (drop from s))
 
-past-pick : (t : Bool) (b : ℕ) (u v s : List ℕ) → (length u < length s → drop (suc (length u)) s ≡ v) → length (pick t [] (b ∷ u)) < length (b ∷ s)
+past-pick : (t : Bool) (b : ℕ) (u v s : List ℕ) → (length u < length s → drop (suc (length u)) s ≡ v)
+    → length (pick t [] (b ∷ u)) < length (b ∷ s)
     → drop (suc (length (pick t [] (b ∷ u)))) (b ∷ s) ≡ pick t s v
 past-pick true b u v s h l = refl
 past-pick false b u v s h l = h (omega arith)
@@ -72,7 +75,8 @@ unfolding upTo past
 drop-past x [] h = refl
 drop-past x (b ∷ s) h = past-pick (eqb b x) b (upTo x s) (past x s) s (drop-past x s) h
 
-none-pick : (t : Bool) (b : ℕ) (u v s : List ℕ) → (length s ≤ length u → v ≡ []) → length (b ∷ s) ≤ length (pick t [] (b ∷ u)) → pick t s v ≡ []
+none-pick : (t : Bool) (b : ℕ) (u v s : List ℕ) → (length s ≤ length u → v ≡ []) → length (b ∷ s) ≤ length (pick t [] (b ∷ u))
+    → pick t s v ≡ []
 none-pick true b u v s h l = absurd (omega arith)
 none-pick false b u v s h l = h (omega arith)
 
@@ -82,7 +86,8 @@ unfolding upTo past
 none-past x [] h = refl
 none-past x (b ∷ s) h = none-pick (eqb b x) b (upTo x s) (past x s) s (none-past x s) h
 
-has-pick : (t : Bool) (b : ℕ) (u s : List ℕ) (v : Bool) → (length u < length s → v ≡ true) → length (pick t [] (b ∷ u)) < length (b ∷ s) → pick t true v ≡ true
+has-pick : (t : Bool) (b : ℕ) (u s : List ℕ) (v : Bool) → (length u < length s → v ≡ true) → length (pick t [] (b ∷ u)) < length (b ∷ s)
+    → pick t true v ≡ true
 has-pick true b u s v h l = refl
 has-pick false b u s v h l = h (omega arith)
 
@@ -92,7 +97,8 @@ unfolding upTo has
 has-some x [] h = absurd (omega arith)
 has-some x (b ∷ s) h = has-pick (eqb b x) b (upTo x s) s (has x s) (has-some x s) h
 
-hasnt-pick : (t : Bool) (b : ℕ) (u s : List ℕ) (v : Bool) → (length s ≤ length u → v ≡ false) → length (b ∷ s) ≤ length (pick t [] (b ∷ u)) → pick t true v ≡ false
+hasnt-pick : (t : Bool) (b : ℕ) (u s : List ℕ) (v : Bool) → (length s ≤ length u → v ≡ false) → length (b ∷ s) ≤ length (pick t [] (b ∷ u))
+    → pick t true v ≡ false
 hasnt-pick true b u s v h l = absurd (omega arith)
 hasnt-pick false b u s v h l = h (omega arith)
 

@@ -11,7 +11,8 @@ use lib.Seq.{length-take-le, getD-take}
 use Rattle.rules.specs.Words.{pick, bit, sum, countIn, mapAt}
 use Rattle.rules.specs.Counts.{freeCount}
 use Rattle.rules.specs.Policies.{demoting}
-use Rattle.rules.specs.Slot.{Setup, TaskSet, noTask, runOf, withJob, jobAt, isPresent, present, eachTask, isMissed, judgedTask, judged, releasedTask, joinedTask, joined, readied, isDemotedNow, demotedTask, demoted, jobsNow, missed, demotedNow}
+use Rattle.rules.specs.Slot.{Setup, TaskSet, noTask, runOf, withJob, jobAt, isPresent, present, eachTask, isMissed, judgedTask, judged}
+use Rattle.rules.specs.Slot.{releasedTask, joinedTask, joined, readied, isDemotedNow, demotedTask, demoted, jobsNow, missed, demotedNow}
 use Rattle.rules.specs.declared.Job.{Job}
 use Rattle.rules.specs.declared.Job.the-variants.{Idle}
 use Rattle.rules.specs.declared.Task.{Task}
@@ -69,7 +70,8 @@ either-false false b e = (refl, e)
 either-false true b e = absurd (true≢false e)
 
 -- a task that is not released and whose job is neither missed nor demoted stays as it is
-ready-same : (g : Setup) (now : ℕ) (s : TaskSet) (i : ℕ) (t : Task) → s i ≡ false → isMissed now (t .job) ≡ false → readyTask g now s i t ≡ t
+ready-same : (g : Setup) (now : ℕ) (s : TaskSet) (i : ℕ) (t : Task) → s i ≡ false → isMissed now (t .job) ≡ false
+    → readyTask g now s i t ≡ t
 ready-same g now s i t n m = rw (n, m)
 
 demoted-same : (cf : Bool) (t : Task) → (cf && isDemotedNow (t .job)) ≡ false → demotedUnder cf t ≡ t
@@ -107,13 +109,23 @@ pub record Changed (g : Setup) (now : ℕ) (s : TaskSet) (r : Run) (ts : List Ta
 pub settle-none : (g : Setup) (now : ℕ) (s : TaskSet) (r : Run) → Full r → Settling g now s r (r .tasks) nobody nobody nobody 0 0
 unfolding sum
 settle-none g now s r h =
-    record { full = h; tasks = each-none (settledTask g now s) 32 (r .tasks) h; removed = mark-none _; low = mark-none _; there = mark-none _; few = omega arith; counts = refl }
+    record {
+      full = h;
+      tasks = each-none (settledTask g now s) 32 (r .tasks) h;
+      removed = mark-none _;
+      low = mark-none _;
+      there =
+          mark-none _;
+      few = omega arith;
+      counts = refl;
+    }
 
 bit-few : (n m i : ℕ) (b : Bool) → n ≤ i → m ≡ n + bit b → m ≤ i + 1
 bit-few n m i true l e = omega arith
 bit-few n m i false l e = omega arith
 
-module _ (g : Setup) (now : ℕ) (s : TaskSet) (r : Run) (ts : List Task) (ms ds ps : List Bool) (n i : ℕ) (l : i < 32) (w : Settling g now s r ts ms ds ps n i) where
+module _ (g : Setup) (now : ℕ) (s : TaskSet) (r : Run) (ts : List Task) (ms ds ps : List Bool) (n i : ℕ) (l : i < 32)
+    (w : Settling g now s r ts ms ds ps n i) where
   was : getD ts i noTask ≡ getD (r .tasks) i noTask
   was = filling-at 32 (mapAt (settledTask g now s) (r .tasks)) (r .tasks) ts i noTask l (w .tasks)
 
@@ -123,7 +135,8 @@ module _ (g : Setup) (now : ℕ) (s : TaskSet) (r : Run) (ts : List Task) (ms ds
 
   low-as : demotedNow g now s r i ≡ (demoting (g .policy) && isDemotedNow (readyTask g now s i (getD ts i noTask) .job))
   unfolding demotedNow
-  low-as = ap (λ (t : Task). demoting (g .policy) && isDemotedNow (t .job)) (ready-at g now s r i l (w .full) ∙ ap (readyTask g now s i) (sym was))
+  low-as = ap (λ (t : Task). demoting (g .policy) && isDemotedNow (t .job))
+      (ready-at g now s r i l (w .full) ∙ ap (readyTask g now s i) (sym was))
 
   pub settle-store : (f : ℕ) (u v : Task) (a b : Bool) → (s i ≡ true → f ≡ freeCount (g .procs) (g .table) i)
       → u ≡ readiedTask (g .table) i f (s i) now (getD ts i noTask)
@@ -140,7 +153,8 @@ module _ (g : Setup) (now : ℕ) (s : TaskSet) (r : Run) (ts : List Task) (ms ds
       }
 
   -- no step changes it
-  pub settle-keep : (s i || isMissed now (getD ts i noTask .job) || (demoting (g .policy) && isDemotedNow (getD ts i noTask .job))) ≡ false → Changed g now s r ts ms ds i
+  pub settle-keep : (s i || isMissed now (getD ts i noTask .job) || (demoting (g .policy) && isDemotedNow (getD ts i noTask .job))) ≡ false
+      → Changed g now s r ts ms ds i
   settle-keep e =
       let f = either-false (s i || isMissed now (getD ts i noTask .job)) _ e in
       let h = either-false (s i) (isMissed now (getD ts i noTask .job)) (f .0) in
@@ -150,16 +164,19 @@ module _ (g : Setup) (now : ℕ) (s : TaskSet) (r : Run) (ts : List Task) (ms ds
         tasks = each-keep (settledTask g now s) 32 (r .tasks) ts i noTask l (w .tasks)
             (ap (demotedUnder (demoting (g .policy))) k ∙ demoted-same (demoting (g .policy)) (getD ts i noTask) (f .1));
         removed = mark-keep (missed g now s r) ms i l (w .removed) (removed-as ∙ h .1);
-        low = mark-keep (demotedNow g now s r) ds i l (w .low) (low-as ∙ ap (λ (t : Task). demoting (g .policy) && isDemotedNow (t .job)) k ∙ f .1);
+        low = mark-keep (demotedNow g now s r) ds i l (w .low)
+            (low-as ∙ ap (λ (t : Task). demoting (g .policy) && isDemotedNow (t .job)) k ∙ f .1);
       }
 
-  here : {ts' : List Task} {ms' ds' : List Bool} → Changed g now s r ts' ms' ds' i → isPresent (jobAt (settled g now s r) i) ≡ isPresent (getD ts' i noTask .job)
+  here : {ts' : List Task} {ms' ds' : List Bool} → Changed g now s r ts' ms' ds' i
+      → isPresent (jobAt (settled g now s r) i) ≡ isPresent (getD ts' i noTask .job)
   here {ts'} v =
       ap (λ (x : Run). isPresent (jobAt x i)) (settled-run g now s r) ∙
       ap (λ (x : Task). isPresent (x .job)) (sym (filling-past 32 _ _ ts' i noTask l (v .tasks)))
 
   -- it is counted
-  pub settle-next : (ts' : List Task) (ms' ds' : List Bool) (d : Bool) (m : ℕ) → Changed g now s r ts' ms' ds' i → d ≡ isPresent (getD ts' i noTask .job)
+  pub settle-next : (ts' : List Task) (ms' ds' : List Bool) (d : Bool) (m : ℕ) → Changed g now s r ts' ms' ds' i
+      → d ≡ isPresent (getD ts' i noTask .job)
       → m ≡ n + bit (isPresent (getD ts' i noTask .job)) → Settling g now s r ts' ms' ds' (set ps i d) m (i + 1)
   unfolding present
   settle-next ts' ms' ds' d m v p k =
@@ -194,7 +211,8 @@ module _ (g : Setup) (now : ℕ) (s : TaskSet) (r : Run) (ts : List Task) (ms ds
       idle-kept : (cf b : Bool) (j : Job) → b ≡ false → isPresent j ≡ false → (b || isMissed now j || (cf && isDemotedNow j)) ≡ false
       idle-kept cf b j n p = rw (n, idle-now j p, and-false cf)
 
-pub settle-all : (g : Setup) (now : ℕ) (s : TaskSet) (r a : Run) (ms ds ps : List Bool) (n i : ℕ) → 32 ≤ i → Settling g now s r (a .tasks) ms ds ps n i
+pub settle-all : (g : Setup) (now : ℕ) (s : TaskSet) (r a : Run) (ms ds ps : List Bool) (n i : ℕ) → 32 ≤ i
+    → Settling g now s r (a .tasks) ms ds ps n i
     → Settles g now s r a n ms ds ps
 unfolding jobsNow
 settle-all g now s r a ms ds ps n i l w =

@@ -9,7 +9,9 @@ use lib.ListN.{getD}
 use borrow.Author.Tests.{ltb-true, ltb-false}
 use Rattle.rules.specs.Words.{pick, bit, tab}
 use Rattle.rules.specs.Policies.{demoting}
-use Rattle.rules.specs.Slot.{Setup, setupOf, TaskSet, noTask, runOf, withJob, jobAt, isPresent, leftOf, dueOf, kind, present, eachTask, jobsNow, contentionFree, loweredTask, lowered, opened, jobBefore, comesBefore, rank, chosen, lastUnit, workedTask, worked, after, ran, finished}
+use Rattle.rules.specs.Slot.{Setup, setupOf, TaskSet, noTask, runOf, withJob, jobAt, isPresent, leftOf, dueOf, kind, present, eachTask}
+use Rattle.rules.specs.Slot.{jobsNow, contentionFree, loweredTask, lowered, opened, jobBefore, comesBefore, rank, chosen, lastUnit}
+use Rattle.rules.specs.Slot.{workedTask, worked, after, ran, finished}
 use Rattle.rules.specs.declared.Job.{Job}
 use Rattle.rules.specs.declared.Job.the-variants.{Idle, Normal, Demoted}
 use Rattle.rules.specs.declared.Task.{Task}
@@ -38,7 +40,8 @@ alike policy now true Idle = record { there = refl; sort = refl; due = refl; lef
 alike policy now true (Normal l f d) = record { there = refl; sort = refl; due = refl; left = refl }
 alike policy now true (Demoted l d) = record { there = refl; sort = refl; due = refl; left = refl }
 
-same-before : (policy now : ℕ) (a b a' b' : Job) (j i : ℕ) → Alike policy now a a' → Alike policy now b b' → jobBefore policy now a' j b' i ≡ jobBefore policy now a j b i
+same-before : (policy now : ℕ) (a b a' b' : Job) (j i : ℕ) → Alike policy now a a' → Alike policy now b b'
+    → jobBefore policy now a' j b' i ≡ jobBefore policy now a j b i
 unfolding jobBefore
 same-before policy now a b a' b' j i p q = rw (p .there, p .sort, q .sort, p .due, q .due)
 
@@ -60,7 +63,8 @@ module _ (g : Setup) (now : ℕ) (d : Run) (h : Full d) where
 
   lowers-at : (i : ℕ) → i < 32 → jobAt (lowered g d) i ≡ loweredIf (lowersIn g d) (jobAt d i)
   lowers-at i l =
-      ap (λ (x : Run). jobAt x i) lowers ∙ ap (λ (t : Task). t .job) (mapAt-at (λ i t. lowersTask (lowersIn g d) t) (d .tasks) i noTask (omega arith))
+      ap (λ (x : Run). jobAt x i) lowers ∙ ap (λ (t : Task). t .job)
+      (mapAt-at (λ i t. lowersTask (lowersIn g d) t) (d .tasks) i noTask (omega arith))
 
   kept : (i : ℕ) → i < 32 → Alike (g .policy) now (jobAt d i) (jobAt (lowered g d) i)
   kept i l = rw (lowers-at i l) (alike (g .policy) now (lowersIn g d) (jobAt d i))
@@ -108,8 +112,10 @@ worked-same s u r f h =
     (same-each (λ i t. pick (s i) (workedTask t) t) (λ i t. pick (u i) (workedTask t) t) (r .tasks) noTask
     (λ i l. ap (λ b. pick b (workedTask (getD (r .tasks) i noTask)) (getD (r .tasks) i noTask)) (h i (omega arith))))
 
-module _ (g : Setup) (now : ℕ) (s : TaskSet) (r d : Run) (full : Full r) (n : ℕ) (ms ds ps : List Bool) (p : Settles g now s r d n ms ds ps) (rs : List Bool)
-    (c : Chosen (g .procs) (g .policy) now d rs) (e : Run) (fs ls : List Bool) (w : Worked (g .procs) (g .policy) now (members rs) d e fs ls) where
+module _ (g : Setup) (now : ℕ) (s : TaskSet) (r d : Run) (full : Full r) (n : ℕ) (ms ds ps : List Bool) (p : Settles g now s r d n ms ds ps)
+    (rs : List Bool)
+    (c : Chosen (g .procs) (g .policy) now d rs) (e : Run) (fs ls : List Bool)
+    (w : Worked (g .procs) (g .policy) now (members rs) d e fs ls) where
   pub stepped : Stepped g now s r e n ms ds rs fs ls
   unfolding after opened ran finished
   stepped =
@@ -124,7 +130,8 @@ module _ (g : Setup) (now : ℕ) (s : TaskSet) (r d : Run) (full : Full r) (n : 
         missed = p .missed;
         demoted = p .demoted;
         ran = x ∙ tab-cong _ _ 0 32 (λ i u l. sym (same-chosen g now _ f i (omega arith)));
-        finished = v .finished ∙ tab-cong _ _ 0 32 (λ i u l. ap (λ b. b && lastUnit (leftOf (jobAt (lowered g (settled g now s r)) i))) (o i (omega arith)));
+        finished = v .finished ∙ tab-cong _ _ 0 32 (λ i u l. ap (λ b. b && lastUnit (leftOf (jobAt (lowered g (settled g now s r)) i)))
+            (o i (omega arith)));
         missed-next = v .missed-next;
       }
 

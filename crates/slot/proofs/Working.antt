@@ -38,7 +38,13 @@ module _ (lowers : Bool) (now : ℕ) (runs : TaskSet) where
     pub next : Marking (missesNext r) ls i
 
   pub work-none : (r : Run) → Full r → Working r (r .tasks) nobody nobody 0
-  work-none r h = record { full = h; tasks = each-none workTask 32 (r .tasks) h; finished = mark-none (finishes r); next = mark-none (missesNext r) }
+  work-none r h = record {
+    full = h;
+    tasks = each-none workTask 32 (r .tasks) h;
+    finished = mark-none (finishes r);
+    next =
+        mark-none (missesNext r);
+  }
 
   module _ (r : Run) (ts : List Task) (fs ls : List Bool) (i : ℕ) (l : i < 32) (w : Working r ts fs ls i) where
     was : getD ts i noTask ≡ getD (r .tasks) i noTask
@@ -97,5 +103,6 @@ module _ (lowers : Bool) (now : ℕ) (runs : TaskSet) where
         next =
             mark-all (missesNext r) ls i l (w .next) ∙
             rw x (tab-cong (missesNext r) _ 0 32
-            (λ i u k. ap (λ (t : Task). isMissed (suc now) (t .job)) (sym (mapAt-at workTask (r .tasks) i noTask (omega (arith, w .full))))));
+            (λ i u k. ap (λ (t : Task). isMissed (suc now) (t .job))
+            (sym (mapAt-at workTask (r .tasks) i noTask (omega (arith, w .full))))));
       }

@@ -7,7 +7,8 @@ use mathlib.Core.List.{List}
 use lib.ListN.{getD}
 use Rattle.rules.specs.Words.{tab}
 use Rattle.rules.specs.Limits.{maxTasks}
-use Rattle.rules.specs.Slot.{Setup, TaskSet, setupOf, jobAt, leftOf, isMissed, present, readied, demoted, jobsNow, lowered, lastUnit, worked, after, ran, finished, missed, demotedNow}
+use Rattle.rules.specs.Slot.{Setup, TaskSet, setupOf, jobAt, leftOf, isMissed, present, readied, demoted, jobsNow, lowered, lastUnit}
+use Rattle.rules.specs.Slot.{worked, after, ran, finished, missed, demotedNow}
 use Rattle.rules.specs.declared.Run.{Run}
 
 -- a set as it stands in an array

@@ -133,7 +133,14 @@ pub written-reads : (n : ℕ) → n < 10 ^ 9 → numberIn (digitsOf n) ≡ Value
 unfolding numberIn isNumber
 written-reads n h =
     let d = digits-shown 8 n in
-    rw (digits-of 1 8 n refl h, le-leb 1 (length (digitsIn 8 n)) (d .some), le-leb (length (digitsIn 8 n)) 9 (d .few), no-zero-written n h, d .digits, d .value h)
+    rw (
+      digits-of 1 8 n refl h,
+      le-leb 1 (length (digitsIn 8 n)) (d .some),
+      le-leb (length (digitsIn 8 n)) 9 (d .few),
+      no-zero-written n h,
+      d .digits,
+      d .value h,
+    )
 
 -- ---- the other way
 worth-grows : (s : List ℕ) (v : ℕ) → v ≤ worth v s
@@ -166,7 +173,8 @@ digits-behind (b ∷ s) v l p h =
     let w = v * 10 + (b - 48) in
     let q : w / 10 ≡ v = omega arith in
     let r : 48 + w % 10 ≡ b = omega arith in
-    let e : digitsOf w ≡ digitsOf v ++ (b ∷ []) = digits-step w (omega arith) (omega (arith, worth-grows s w)) ∙ ap₂ (λ (x y : ℕ). digitsOf x ++ (y ∷ [])) q r in
+    let e : digitsOf w ≡ digitsOf v ++ (b ∷ []) = digits-step w (omega arith) (omega (arith, worth-grows s w))
+    ∙ ap₂ (λ (x y : ℕ). digitsOf x ++ (y ∷ [])) q r in
     digits-behind s w (omega arith) (d .2) h ∙ ap (λ (z : List ℕ). z ++ s) e ∙ append-assoc (digitsOf v) (b ∷ []) s
 
 digits-whole : (s : List ℕ) → 1 ≤ length s → length s ≤ 9 → noLeadingZero s ≡ true → allDigits s ≡ true → digitsOf (worth 0 s) ≡ s
@@ -181,8 +189,10 @@ digits-whole (b ∷ (c ∷ s)) h l p q =
     let v : ℕ = 0 * 10 + (b - 48) in
     let pos : 0 < v = omega (arith, n) in
     let fit = worth-below (c ∷ s) 1 v (d .2) (omega arith) in
-    let all : worth v (c ∷ s) < 10 ^ 9 = omega (arith, fit, pow-le-pow-right {n = 10} (omega arith) {i = 1 + length (c ∷ s)} {j = 9} (omega arith)) in
-    digits-behind (c ∷ s) v pos (d .2) all ∙ ap (λ (z : List ℕ). z ++ (c ∷ s)) (digits-small v (omega arith) ∙ ap (λ (x : ℕ). x ∷ []) (omega arith))
+    let all : worth v (c ∷ s) < 10 ^ 9 =
+    omega (arith, fit, pow-le-pow-right {n = 10} (omega arith) {i = 1 + length (c ∷ s)} {j = 9} (omega arith)) in
+    digits-behind (c ∷ s) v pos (d .2) all ∙ ap (λ (z : List ℕ). z ++ (c ∷ s))
+    (digits-small v (omega arith) ∙ ap (λ (x : ℕ). x ∷ []) (omega arith))
 
 number-digits : (s : List ℕ) → isNumber s ≡ true → digitsOf (worth 0 s) ≡ s
 unfolding isNumber

@@ -32,7 +32,8 @@ same-true (x ∷ s) (y ∷ t) e = ap₂ _∷_ (eqb-true x y (and-left (eqb x y) 
 -- the first byte of a text without x is not x, and no more is any other
 without-head : (x b : ℕ) (s : List ℕ) → has x (b ∷ s) ≡ false → (eqb b x ≡ false) × (has x s ≡ false)
 unfolding has
-without-head x b s = picked (λ t. t ≡ false → (eqb b x ≡ false) × (has x s ≡ false)) (eqb b x) true (has x s) (λ p e. absurd (true≢false e)) (λ p e. (p, e))
+without-head x b s = picked (λ t. t ≡ false → (eqb b x ≡ false) × (has x s ≡ false)) (eqb b x) true (has x s) (λ p e. absurd (true≢false e))
+    (λ p e. (p, e))
 
 pub upTo-seam : (x : ℕ) (s t : List ℕ) → has x s ≡ false → upTo x (s ++ (x ∷ t)) ≡ s
 unfolding upTo
@@ -66,7 +67,8 @@ unfolding has upTo past
 cut-at x [] h = absurd (false≢true h)
 cut-at x (b ∷ s) h = go (cut-at x s) (eqb b x) refl h
   where
-    go : (has x s ≡ true → upTo x s ++ (x ∷ past x s) ≡ s) → (t : Bool) → eqb b x ≡ t → pick t true (has x s) ≡ true → pick t [] (b ∷ upTo x s) ++ (x ∷ pick t s (past x s)) ≡ b ∷ s
+    go : (has x s ≡ true → upTo x s ++ (x ∷ past x s) ≡ s) → (t : Bool) → eqb b x ≡ t → pick t true (has x s) ≡ true
+        → pick t [] (b ∷ upTo x s) ++ (x ∷ pick t s (past x s)) ≡ b ∷ s
     go more true e h = ap (λ (y : ℕ). y ∷ s) (sym (eqb-true b x e))
     go more false e h = ap (λ (r : List ℕ). b ∷ r) (more h)
 
@@ -84,7 +86,8 @@ past-some x (b ∷ s) h = go (past-some x s) (eqb b x) h
 pub past-less : (x b : ℕ) (s : List ℕ) → length (past x (b ∷ s)) ≤ length s
 unfolding past
 past-less x b [] = picked (λ (z : List ℕ). length z ≤ 0) (eqb b x) [] [] (λ e. omega arith) (λ e. omega arith)
-past-less x b (d ∷ s) = picked (λ (z : List ℕ). length z ≤ suc (length s)) (eqb b x) (d ∷ s) (past x (d ∷ s)) (λ e. omega arith) (λ e. omega (arith, past-less x d s))
+past-less x b (d ∷ s) = picked (λ (z : List ℕ). length z ≤ suc (length s)) (eqb b x) (d ∷ s) (past x (d ∷ s)) (λ e. omega arith)
+    (λ e. omega (arith, past-less x d s))
 
 -- ---- a text in which neither a tab nor a newline stands
 pub record Plain (s : List ℕ) : Type 0 where
@@ -112,7 +115,8 @@ parted f (g ∷ gs) = f ++ (tabByte ∷ parted g gs)
 pub line-parted : (f : List ℕ) (fs : List (List ℕ)) → lineText tabByte f fs ≡ parted f fs ++ (newlineByte ∷ [])
 unfolding lineText moreFields parted
 line-parted f [] = refl
-line-parted f (g ∷ gs) = ap (λ (t : List ℕ). f ++ (tabByte ∷ t)) (line-parted g gs) ∙ sym (append-assoc f (tabByte ∷ parted g gs) (newlineByte ∷ []))
+line-parted f (g ∷ gs) = ap (λ (t : List ℕ). f ++ (tabByte ∷ t)) (line-parted g gs)
+    ∙ sym (append-assoc f (tabByte ∷ parted g gs) (newlineByte ∷ []))
 
 without-append : (x : ℕ) (s t : List ℕ) → has x s ≡ false → has x t ≡ false → has x (s ++ t) ≡ false
 unfolding has
@@ -130,7 +134,8 @@ parted-some f [] h = h
 parted-some f (g ∷ gs) h = omega (arith, length-append f (tabByte ∷ parted g gs))
 
 -- a text whose first field is f and whose others are g and gs is these so parted
-pub parted-cons : (s f g : List ℕ) (gs : List (List ℕ)) → upTo tabByte s ≡ f → past tabByte s ≡ parted g gs → 1 ≤ length g → s ≡ parted f (g ∷ gs)
+pub parted-cons : (s f g : List ℕ) (gs : List (List ℕ)) → upTo tabByte s ≡ f → past tabByte s ≡ parted g gs → 1 ≤ length g
+    → s ≡ parted f (g ∷ gs)
 unfolding parted
 parted-cons s f g gs p q h =
     let l : 1 ≤ length (past tabByte s) = rw q (parted-some g gs h) in

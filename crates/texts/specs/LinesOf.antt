@@ -41,7 +41,8 @@ lines-steps (suc k) zero (b ∷ s) h l = absurd (omega arith)
 lines-steps (suc k) (suc j) [] h l = refl
 lines-steps (suc k) (suc j) (b ∷ s) h l =
     let m = afterLine-less b s in
-    ap (λ (ls : List Line). pick (has newlineByte (b ∷ s)) (lineSays (lineOf (b ∷ s))) Bad ∷ ls) (lines-steps k j (afterLine (b ∷ s)) (omega arith) (omega arith))
+    ap (λ (ls : List Line). pick (has newlineByte (b ∷ s)) (lineSays (lineOf (b ∷ s))) Bad ∷ ls)
+    (lines-steps k j (afterLine (b ∷ s)) (omega arith) (omega arith))
 
 pub linesOf-nil : linesOf [] ≡ []
 unfolding linesOf linesIn

@@ -12,7 +12,8 @@ use Rattle.rules.specs.Policies.{maxPolicy, policyWords, policyName, policyOf}
 use Rattle.rules.specs.declared.Num.{Num}
 use Rattle.rules.specs.declared.Num.the-variants.{Value, Bad}
 use Rattle.texts.specs.Fields.{Plain}
-use Rattle.texts.specs.WordLists.{every, every-at, every-all, none-at, isPlain, is-plain, isLong, is-long, distinct, place-found, place-read}
+use Rattle.texts.specs.WordLists.{every, every-at, every-all, none-at, isPlain, is-plain, isLong, is-long, distinct, place-found}
+use Rattle.texts.specs.WordLists.{place-read}
 
 -- no policy's word is longer
 abbrev pub nameRoom : ℕ

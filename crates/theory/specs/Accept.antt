@@ -49,10 +49,19 @@ unfolding releasedIn
 released-some rs zero t i e = absurd (false≢true e)
 released-some rs (suc n) t i e = go (releasedIn rs n t i) refl (released-some rs n t i) e
   where
-    go : (b : Bool) → releasedIn rs n t i ≡ b → (releasedIn rs n t i ≡ true → (j : ℕ) × ((j < n) × (timeOf rs j ≡ t) × (nameOf rs j ≡ suc i)))
-        → (b || (eqb (timeOf rs n) t && eqb (nameOf rs n) (suc i))) ≡ true → (j : ℕ) × ((j < suc n) × (timeOf rs j ≡ t) × (nameOf rs j ≡ suc i))
+    go : (b : Bool) → releasedIn rs n t i ≡ b
+        → (releasedIn rs n t i ≡ true → (j : ℕ) × ((j < n) × (timeOf rs j ≡ t) × (nameOf rs j ≡ suc i)))
+        → (b || (eqb (timeOf rs n) t && eqb (nameOf rs n) (suc i))) ≡ true
+        → (j : ℕ) × ((j < suc n) × (timeOf rs j ≡ t) × (nameOf rs j ≡ suc i))
     go true q ih z = let r = ih q in (r .0, (omega (arith, r .1 .0), r .1 .1, r .1 .2))
-    go false q ih z = (n, (omega arith, eqb-true _ _ (and-left (eqb (timeOf rs n) t) _ z), eqb-true _ _ (and-right (eqb (timeOf rs n) t) _ z)))
+    go false q ih z = (
+      n,
+      (
+        omega arith,
+        eqb-true _ _ (and-left (eqb (timeOf rs n) t) _ z),
+        eqb-true _ _ (and-right (eqb (timeOf rs n) t) _ z),
+      ),
+    )
 
 module _ (c : Case) (g : Legal c) where
   separate : (i u v : ℕ) → releasedAt c u i ≡ true → releasedAt c v i ≡ true → u < v → u + period (c .table) i ≤ v
@@ -62,7 +71,8 @@ module _ (c : Case) (g : Legal c) where
       go (x .0) (y .0) (x .1) (y .1) (decLt (x .0) (y .0))
     where
       go : (j k : ℕ) → (j < releaseCount (c .trace)) × (timeOf (c .trace) j ≡ u) × (nameOf (c .trace) j ≡ suc i)
-          → (k < releaseCount (c .trace)) × (timeOf (c .trace) k ≡ v) × (nameOf (c .trace) k ≡ suc i) → Dec (j < k) → u + period (c .table) i ≤ v
+          → (k < releaseCount (c .trace)) × (timeOf (c .trace) k ≡ v) × (nameOf (c .trace) k ≡ suc i) → Dec (j < k)
+          → u + period (c .table) i ≤ v
       go j k x y (yes l) =
           let z : nameOf (c .trace) k - 1 ≡ i = omega (arith, y .2) in
           omega (arith, g .separate j k l (y .0) (x .2 ∙ sym (y .2)), x .1, y .1, ap (period (c .table)) z)
@@ -104,14 +114,16 @@ module _ (c : Case) (i a e : ℕ) (come : a + deadline (c .table) i ≤ e) where
   demotion-same = rw all-slots (first-cong _ _ a (deadline (c .table) i) (λ t x y. sym (replay-demoted c t i)))
 
 -- ---- how the job of release j stands at its deadline, before step 1
-module _ (c : Case) (g : Legal c) (j : ℕ) (h : j < releaseCount (c .trace)) (e : ℕ) (come : timeOf (c .trace) j + deadline (c .table) (taskAt c j) ≤ e) where
+module _ (c : Case) (g : Legal c) (j : ℕ) (h : j < releaseCount (c .trace)) (e : ℕ)
+    (come : timeOf (c .trace) j + deadline (c .table) (taskAt c j) ≤ e) where
   abbrev i : ℕ
   i = taskAt c j
 
   abbrev a : ℕ
   a = timeOf (c .trace) j
 
-  pub stand-due : Stand (finishBy c i a e) (demotionBy c i a e) (a + deadline (c .table) i) (jobAt (stateAt c (a + deadline (c .table) i)) i)
+  pub stand-due : Stand (finishBy c i a e) (demotionBy c i a e) (a + deadline (c .table) i)
+      (jobAt (stateAt c (a + deadline (c .table) i)) i)
   stand-due =
       rw (finish-same c i a e come, demotion-same c i a e come, ← (replay-state c (a + deadline (c .table) i)))
       (at-deadline (replayOf c) i a (alone-at c g j h))

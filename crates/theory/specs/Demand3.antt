@@ -57,7 +57,8 @@ course-demoted-finishes k e i a s cf att come enough d =
 
 -- 2 for a course with lawful releases: by part 1 document 01's count is never too high
 pub course-demoted-meets : (k : Course) (e i a : ℕ) → Lawful k → demoting (k .setup .policy) ≡ true → Attends k e → k .released a i ≡ true
-    → a + deadline (k .setup .table) i ≤ e → 0 < demotionIn k i a → (a < finishIn k i a) × (finishIn k i a ≤ a + deadline (k .setup .table) i)
+    → a + deadline (k .setup .table) i ≤ e → 0 < demotionIn k i a
+    → (a < finishIn k i a) × (finishIn k i a ≤ a + deadline (k .setup .table) i)
 unfolding freeCount
 course-demoted-meets k e i a g cf att r come d =
     course-demoted-finishes k e i a (alone k g i a r) cf att come (course-free-slots k g a (deadline (k .setup .table) i)) d
@@ -80,12 +81,17 @@ unfolding freeCount
 free-slots c ok j h =
     let a = timeOf (c .trace) j in
     let D = deadline (c .table) (taskAt c j) in
-    omega (arith, course-free-slots (replayOf c) (lawful c (legal c ok)) a D, count-cong (contentionFreeIn (replayOf c)) (contentionFreeAt c) a D (λ t x y. replay-free c t))
+    omega (
+      arith,
+      course-free-slots (replayOf c) (lawful c (legal c ok)) a D,
+      count-cong (contentionFreeIn (replayOf c)) (contentionFreeAt c) a D (λ t x y. replay-free c t),
+    )
 
 -- 2. Of an accepted case under a policy that demotes, whatever the other tasks release: a job whose record says that it was demoted has a
 -- record that says met, with a finish after its release and not after its deadline.
 pub demoted-meets : (c : Case) → Accepted c → demoting (c .policy) ≡ true → (j : ℕ) → Judged c j → 0 < recordBy c (c .end) j .demotion
-    → (recordBy c (c .end) j .verdict ≡ 1) × (timeOf (c .trace) j < recordBy c (c .end) j .finish) × (recordBy c (c .end) j .finish ≤ dueAt c j)
+    → (recordBy c (c .end) j .verdict ≡ 1) × (timeOf (c .trace) j < recordBy c (c .end) j .finish)
+    × (recordBy c (c .end) j .finish ≤ dueAt c j)
 unfolding recordBy verdictBy
 demoted-meets c ok cf j h d =
     let i = taskAt c j in
@@ -93,7 +99,8 @@ demoted-meets c ok cf j h d =
     let g = legal c ok in
     let f = finish-same c i a (c .end) (h .1) in
     let p : 0 < demotionIn (replayOf c) i a = omega (arith, demotion-same c i a (c .end) (h .1)) in
-    let r = course-demoted-meets (replayOf c) (c .end) i a (lawful c g) cf (replay-attends c (c .end)) (sole c g j (h .0) .released) (h .1) p in
+    let r = course-demoted-meets (replayOf c) (c .end) i a (lawful c g) cf (replay-attends c (c .end)) (sole c g j (h .0) .released)
+    (h .1) p in
     let some : 0 < finishBy c i a (c .end) = omega (arith, f, r .0) in
     (met-by-finish _ _ some, omega (arith, f, r .0), omega (arith, f, r .1))
 

@@ -56,12 +56,14 @@ module _ (k : Course) (i a : ℕ) (s : Alone k i a) where
         rw y at (rw z at (left-told (D - 1) (found-told (D - 1) (omega (arith, s .lasts)))))
 
     attended : Attended (contentionFreeIn k) (λ t. k .works t i) a (releasedJob (k .setup) a i) D
-    attended n h q p = attends (a + n) i (omega arith) (s .sole .task) q (present-in k (a + n) i (s .sole .task) ∙ ap isPresent (found-told n h) ∙ p)
+    attended n h q p = attends (a + n) i (omega arith) (s .sole .task) q (present-in k (a + n) i (s .sole .task)
+        ∙ ap isPresent (found-told n h) ∙ p)
 
     module _ (enough : freeCountIn (k .setup) i ≤ countIn (contentionFreeIn k) a (deadline (k .setup .table) i)) where
       -- at its deadline the job is not there as a demoted one
       pub none-demoted : isDemoted (jobAt (stateIn k (a + deadline (k .setup .table) i)) i) ≡ true → ⊥
-      none-demoted = rw due-told (none-low (contentionFreeIn k) (λ t. k .works t i) a (execution (k .setup .table) i) _ (a + D) D (s .some) attended enough)
+      none-demoted = rw due-told (none-low (contentionFreeIn k)
+          (λ t. k .works t i) a (execution (k .setup .table) i) _ (a + D) D (s .some) attended enough)
 
       -- so it has finished if it was demoted
       pub demoted-finishes : 0 < demotionIn k i a → 0 < finishIn k i a

@@ -10,7 +10,8 @@ use Rattle.rules.specs.declared.Job.the-variants.{Idle}
 use Rattle.rules.specs.Words.{pick, countIn}
 use Rattle.rules.specs.Case.{Case, under}
 use Rattle.rules.specs.Policies.{edf, demoting}
-use Rattle.rules.specs.Slot.{jobAt, isPresent, isDemoted, leftOf, dueOf, isMissed, releasedJob, jobBefore, comesBefore, rank, present, chosen, ran, opened, workedJob}
+use Rattle.rules.specs.Slot.{jobAt, isPresent, isDemoted, leftOf, dueOf, isMissed, releasedJob, jobBefore, comesBefore, rank, present}
+use Rattle.rules.specs.Slot.{chosen, ran, opened, workedJob}
 use Rattle.rules.specs.Replay.{setupIn, releasedAt, stateAt, ranAt}
 use Rattle.bridge.specs.Steps.{openedJob, judgedJob, lowers}
 use Rattle.bridge.specs.Jobs.{kind-normal, kind-demoted, kept-opened, goes-on, went-on, more-goes-on}

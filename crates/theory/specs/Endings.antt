@@ -45,7 +45,8 @@ module _ (c : Case) (g : Legal c) (i : ℕ) (l : i < 32) where
   left-from e = rw left-at (judged-from (replayOf c) i (c .end) (jobAt (stateAt c (c .end)) i) (from-release (c .end)) (rw left-at at e))
 
   -- the release that a job comes from, by its place in the trace
-  place : (t u : ℕ) (x : Job) → From (replayOf c) i t u x → (j : ℕ) × ((j < releaseCount (c .trace)) × (taskAt c j ≡ i) × (dueOf x ≡ timeOf (c .trace) j + deadline (c .table) i))
+  place : (t u : ℕ) (x : Job) → From (replayOf c) i t u x → (j : ℕ)
+      × ((j < releaseCount (c .trace)) × (taskAt c j ≡ i) × (dueOf x ≡ timeOf (c .trace) j + deadline (c .table) i))
   place t u x f =
       let r = released-some (c .trace) (releaseCount (c .trace)) (f .at) i (f .released) in
       (r .0, (r .1 .0, omega (arith, r .1 .2), omega (arith, f .due, r .1 .1)))
@@ -71,7 +72,8 @@ module _ (c : Case) (g : Legal c) (j : ℕ) (h : j < releaseCount (c .trace)) wh
       let come : due ≤ c .end = leb-true _ _ (r .1) in
       (come, go (r .0) (stand-due c g j h (c .end) come))
     where
-      go : finishBy c i a (c .end) ≡ 0 → Stand (finishBy c i a (c .end)) (demotionBy c i a (c .end)) due (jobAt (stateAt c due) i) → isMissed due (jobAt (stateAt c due) i) ≡ true
+      go : finishBy c i a (c .end) ≡ 0 → Stand (finishBy c i a (c .end)) (demotionBy c i a (c .end)) due (jobAt (stateAt c due) i)
+          → isMissed due (jobAt (stateAt c due) i) ≡ true
       go z (inl (q, v)) = rw (v .there) (eq-eqb _ _ (v .its))
       go z (inr (p, q)) = absurd (omega arith)
 
@@ -99,11 +101,14 @@ module _ (c : Case) (g : Legal c) (j : ℕ) (h : j < releaseCount (c .trace)) wh
       let later : c .end < due = leb-false due (c .end) (r .1) in
       rw (left-at c g i (sole c g j h .task)) (go later (r .0) (stand-end later))
     where
-      go : c .end < due → finishBy c i a (c .end) ≡ 0 → Stand (finishBy c i a (c .end)) (demotionBy c i a (c .end)) due (jobAt (stateAt c (c .end)) i)
-          → (isPresent (judgedJob (c .end) (jobAt (stateAt c (c .end)) i)) ≡ true) × (dueOf (judgedJob (c .end) (jobAt (stateAt c (c .end)) i)) ≡ due)
+      go : c .end < due → finishBy c i a (c .end) ≡ 0
+          → Stand (finishBy c i a (c .end)) (demotionBy c i a (c .end)) due (jobAt (stateAt c (c .end)) i)
+          → (isPresent (judgedJob (c .end) (jobAt (stateAt c (c .end)) i)) ≡ true)
+          × (dueOf (judgedJob (c .end) (jobAt (stateAt c (c .end)) i)) ≡ due)
       go later z (inr (p, q)) = absurd (omega arith)
       go later z (inl (q, v)) =
-          let n : eqb (dueOf (jobAt (stateAt c (c .end)) i)) (c .end) ≡ false = ne-eqb (dueOf (jobAt (stateAt c (c .end)) i)) (c .end) (λ x. omega (arith, v .its)) in
+          let n : eqb (dueOf (jobAt (stateAt c (c .end)) i)) (c .end) ≡ false =
+          ne-eqb (dueOf (jobAt (stateAt c (c .end)) i)) (c .end) (λ x. omega (arith, v .its)) in
           rw (v .there, n) (v .there, v .its)
 
   pub left-open : isPresent (jobAt (closing c) i) ≡ true → dueOf (jobAt (closing c) i) ≡ due → verdict ≡ 3
@@ -115,11 +120,13 @@ module _ (c : Case) (g : Legal c) (j : ℕ) (h : j < releaseCount (c .trace)) wh
       go : c .end < due → Stand (finishBy c i a (c .end)) (demotionBy c i a (c .end)) due (jobAt (stateAt c (c .end)) i) → verdict ≡ 3
       go later (inl (q, v)) = rw (q, lt-leb due (c .end) later)
       go later (inr (p, q)) =
-          absurd (false≢true (sym (ap (λ (x : Job). isPresent (judgedJob (c .end) x)) q) ∙ sym (ap isPresent (left-at c g i (sole c g j h .task))) ∙ e))
+          absurd (false≢true (sym (ap (λ (x : Job). isPresent (judgedJob (c .end) x)) q)
+          ∙ sym (ap isPresent (left-at c g i (sole c g j h .task))) ∙ e))
 
 -- ---- each job removed or left is that of a release
 module _ (c : Case) (g : Legal c) (i : ℕ) (l : i < 32) where
-  pub removed-release : (t : ℕ) → missedAt c t i ≡ true → (j : ℕ) × ((j < releaseCount (c .trace)) × (taskAt c j ≡ i) × (timeOf (c .trace) j + deadline (c .table) i ≡ t))
+  pub removed-release : (t : ℕ) → missedAt c t i ≡ true → (j : ℕ)
+      × ((j < releaseCount (c .trace)) × (taskAt c j ≡ i) × (timeOf (c .trace) j + deadline (c .table) i ≡ t))
   unfolding missedAt missed
   removed-release t e =
       let x = jobAt (stateAt c t) i in
@@ -128,7 +135,8 @@ module _ (c : Case) (g : Legal c) (i : ℕ) (l : i < 32) where
       (r .0, (r .1 .0, r .1 .1, omega (arith, r .1 .2)))
 
   pub left-release : isPresent (jobAt (closing c) i) ≡ true
-      → (j : ℕ) × ((j < releaseCount (c .trace)) × (taskAt c j ≡ i) × (dueOf (jobAt (closing c) i) ≡ timeOf (c .trace) j + deadline (c .table) i))
+      → (j : ℕ) × ((j < releaseCount (c .trace)) × (taskAt c j ≡ i)
+      × (dueOf (jobAt (closing c) i) ≡ timeOf (c .trace) j + deadline (c .table) i))
   left-release e = place c g i l _ _ (jobAt (closing c) i) (left-from c g i l e)
 
 -- ---- the open records are as many as the jobs that are left
@@ -144,7 +152,8 @@ module _ (c : Case) (g : Legal c) where
   abbrev opens : ℕ → ℕ → Bool
   opens i j = isOpen j && eqb (taskAt c j) i
 
-  left-of : (i j : ℕ) → j < n → opens i j ≡ true → (taskAt c j ≡ i) × (isPresent (jobAt (closing c) i) ≡ true) × (dueOf (jobAt (closing c) i) ≡ timeOf (c .trace) j + deadline (c .table) i)
+  left-of : (i j : ℕ) → j < n → opens i j ≡ true → (taskAt c j ≡ i) × (isPresent (jobAt (closing c) i) ≡ true)
+      × (dueOf (jobAt (closing c) i) ≡ timeOf (c .trace) j + deadline (c .table) i)
   unfolding recordBy verdictBy
   left-of i j h e =
       let z : taskAt c j ≡ i = eqb-true _ _ (and-right (isOpen j) _ e) in
@@ -174,7 +183,8 @@ module _ (c : Case) (g : Legal c) where
       go true e =
           let r = left-release c g i l e in
           let v = left-open c g (r .0) (r .1 .0) (rw (r .1 .1) e) (rw (r .1 .1) (r .1 .2)) in
-          count-only (opens i) 0 n (r .0) (omega arith) (omega (arith, r .1 .0)) (and-both (isOpen (r .0)) _ (eq-eqb _ 3 v) (eq-eqb _ i (r .1 .1)))
+          count-only (opens i) 0 n (r .0) (omega arith) (omega (arith, r .1 .0))
+          (and-both (isOpen (r .0)) _ (eq-eqb _ 3 v) (eq-eqb _ i (r .1 .1)))
           (λ j k x y. one-open i j k x (omega arith))
 
   -- an open release is open of its own task alone
@@ -184,8 +194,10 @@ module _ (c : Case) (g : Legal c) where
       go : (b : Bool) → isOpen j ≡ b → bit b ≡ countIn (λ i. opens i j) 0 32
       go false e = sym (count-none (λ i. opens i j) 0 32 (λ i x y. rw e))
       go true e =
-          sym (count-only (λ i. opens i j) 0 32 (taskAt c j) (omega arith) (omega (arith, g .named j h, g .tasks-few)) (and-both (isOpen j) _ e (eq-eqb (taskAt c j) _ refl))
-          (λ i k x y p q. apart i k x (eqb-true (taskAt c j) i (and-right (isOpen j) _ p)) (eqb-true (taskAt c j) k (and-right (isOpen j) _ q))))
+          sym (count-only (λ i. opens i j) 0 32 (taskAt c j) (omega arith) (omega (arith, g .named j h, g .tasks-few))
+          (and-both (isOpen j) _ e (eq-eqb (taskAt c j) _ refl))
+          (λ i k x y p q. apart i k x (eqb-true (taskAt c j) i (and-right (isOpen j) _ p))
+          (eqb-true (taskAt c j) k (and-right (isOpen j) _ q))))
         where
           apart : (i k : ℕ) → i < k → taskAt c j ≡ i → taskAt c j ≡ k → ⊥
           apart i k x p q = omega arith

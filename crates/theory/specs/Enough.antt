@@ -34,7 +34,8 @@ pub record From (k : Course) (i late early : ℕ) (j : Job) : Type 0 where
   pub ahead : early ≤ at + deadline (k .setup .table) i
 
 -- what work leaves of a job was there before it, with the same deadline
-worked-kept : (b : Bool) (o : Job) → isPresent (pick b (workedJob o) o) ≡ true → (isPresent o ≡ true) × (dueOf (pick b (workedJob o) o) ≡ dueOf o)
+worked-kept : (b : Bool) (o : Job) → isPresent (pick b (workedJob o) o) ≡ true
+    → (isPresent o ≡ true) × (dueOf (pick b (workedJob o) o) ≡ dueOf o)
 worked-kept false o e = (e, refl)
 worked-kept true o e = let w = went-on o e in (sym (w .there) ∙ e, w .due)
 
@@ -43,14 +44,22 @@ module _ (k : Course) (i : ℕ) where
   D = deadline (k .setup .table) i
 
   -- step 1 of t keeps no job whose deadline is t
-  pub judged-from : (t : ℕ) (j : Job) → (isPresent j ≡ true → From k i t t j) → isPresent (judgedJob t j) ≡ true → From k i t (suc t) (judgedJob t j)
+  pub judged-from : (t : ℕ) (j : Job) → (isPresent j ≡ true → From k i t t j) → isPresent (judgedJob t j) ≡ true
+      → From k i t (suc t) (judgedJob t j)
   judged-from t j s = go (isMissed t j) refl
     where
       go : (b : Bool) → isMissed t j ≡ b → isPresent (pick b Idle j) ≡ true → From k i t (suc t) (pick b Idle j)
       go true q e = absurd (false≢true e)
       go false q e =
           let f = s e in
-          record { at = f .at; released = f .released; past = f .past; due = f .due; ahead = ahead f (eq-or-lt-of-le {n = t} {m = f .at + D} (f .ahead)) }
+          record {
+            at = f .at;
+            released = f .released;
+            past = f .past;
+            due = f .due;
+            ahead =
+                ahead f (eq-or-lt-of-le {n = t} {m = f .at + D} (f .ahead));
+          }
         where
           ahead : (f : From k i t t j) → (t ≡ f .at + D) ⊎ (t < f .at + D) → t < f .at + D
           ahead f (inr h) = h
@@ -74,7 +83,14 @@ module _ (k : Course) (i : ℕ) where
         let w = worked-kept (k .works t i) (openIn k t i) (sym (ap isPresent (next-in k t i l)) ∙ e) in
         let m = kept-in k t i l in
         let f = found-from t (state-from t) (sym (m .there) ∙ w .0) in
-        record { at = f .at; released = f .released; past = f .past; due = ap dueOf (next-in k t i l) ∙ w .1 ∙ m .due ∙ f .due; ahead = f .ahead }
+        record {
+          at = f .at;
+          released = f .released;
+          past = f .past;
+          due = ap dueOf (next-in k t i l) ∙ w .1 ∙ m .due ∙ f .due;
+          ahead =
+              f .ahead;
+        }
 
     -- after steps 1 and 2 of t
     pub ready-from : (t : ℕ) → isPresent (foundIn k t i) ≡ true → From k i (suc t) (suc t) (foundIn k t i)
@@ -89,19 +105,22 @@ module _ (k : Course) (g : Lawful k) where
   jobsAt t = countIn (λ i. isPresent (foundIn k t i)) 0 32
 
   -- the slots of a window in which a task has a job
-  task-slots : (i : ℕ) → i < taskCount ts → (a l : ℕ) → countIn (λ t. isPresent (foundIn k t i)) a l ≤ availability (period ts i) (deadline ts i) l
+  task-slots : (i : ℕ) → i < taskCount ts → (a l : ℕ) → countIn (λ t. isPresent (foundIn k t i)) a l
+      ≤ availability (period ts i) (deadline ts i) l
   task-slots i h a l =
       let m = g .good i h in
       let rel : ℕ → Bool = λ t. k .released t i in
       let pos : 0 < deadline ts i = omega (arith, m .some, m .fits) in
       let rs = times rel 0 (a + l) in
-      let w = window (period ts i) (deadline ts i) pos (m .within) 0 rs (sporadic rel (period ts i) (g .separate i) 0 (a + l) 0 (λ v x y. omega arith)) a l in
+      let w = window (period ts i) (deadline ts i) pos (m .within) 0 rs (sporadic rel (period ts i)
+      (g .separate i) 0 (a + l) 0 (λ v x y. omega arith)) a l in
       omega (
         arith,
         w,
         count-mono (λ t. isPresent (foundIn k t i)) (spanned rs (deadline ts i)) a l (λ t x y e.
             let f = ready-from k i (omega (arith, g .tasks-few)) (λ u r. pos) t e in
-            in-times rel (deadline ts i) t (f .at) 0 (a + l) (f .released) (omega arith) (omega (arith, f .past)) (span-in (deadline ts i) (f .at) t (omega (arith, f .past)) (f .ahead))),
+            in-times rel (deadline ts i) t (f .at) 0 (a + l) (f .released) (omega arith) (omega (arith, f .past))
+            (span-in (deadline ts i) (f .at) t (omega (arith, f .past)) (f .ahead))),
       )
 
   no-slots : (i : ℕ) → i < 32 → taskCount ts ≤ i → (t : ℕ) → isPresent (foundIn k t i) ≡ false
@@ -134,5 +153,6 @@ module _ (k : Course) (g : Lawful k) where
       let busy : countIn (λ t. ltb m (jobsAt t)) a l ≤ availabilities ts l / suc m =
       le-div-iff-mul-le {k = suc m} (omega arith) .1 (omega (arith, over-count jobsAt m a l, jobs-sum a l))
       in
-      let calm : countIn (contentionFreeIn k) a l ≡ countIn (λ t. leb (jobsAt t) m) a l = count-cong _ _ a l (λ t x y. ap (λ (n : ℕ). leb n m) (jobs-found k t)) in
+      let calm : countIn (contentionFreeIn k) a l ≡ countIn (λ t. leb (jobsAt t) m) a l =
+      count-cong _ _ a l (λ t x y. ap (λ (n : ℕ). leb n m) (jobs-found k t)) in
       omega (arith, busy, calm, count-both jobsAt m a l)

@@ -11,9 +11,12 @@ use Rattle.rules.specs.Words.{sum, countIn, firstIn, tab, mapFrom}
 use Rattle.rules.specs.Case.{Case, caseOf}
 use Rattle.rules.specs.Policies.{edf, edfCf}
 use Rattle.rules.specs.Counts.{availability, availabilities, count, freeCount}
-use Rattle.rules.specs.Refusals.{orNext, firstOf, procsFault, policyFault, tableFault, taskFault, endFault, traceFault, inOrder, lastBefore, releaseFault, caseFault, Accepted}
-use Rattle.rules.specs.Slot.{present, judged, joined, demoted, jobsNow, contentionFree, lowered, opened, jobBefore, rank, chosen, worked, after, ran, finished, demotedNow}
-use Rattle.rules.specs.Replay.{setupIn, releasedIn, releasedAt, stateFrom, stateAt, ranAt, finishedAt, demotedAt, contentionFreeAt, slotsBy, finishBy, demotionBy, verdictBy, recordOf, recordBy}
+use Rattle.rules.specs.Refusals.{orNext, firstOf, procsFault, policyFault, tableFault, taskFault, endFault, traceFault, inOrder, lastBefore}
+use Rattle.rules.specs.Refusals.{releaseFault, caseFault, Accepted}
+use Rattle.rules.specs.Slot.{present, judged, joined, demoted, jobsNow, contentionFree, lowered, opened, jobBefore, rank, chosen, worked}
+use Rattle.rules.specs.Slot.{after, ran, finished, demotedNow}
+use Rattle.rules.specs.Replay.{setupIn, releasedIn, releasedAt, stateFrom, stateAt, ranAt, finishedAt, demotedAt, contentionFreeAt, slotsBy}
+use Rattle.rules.specs.Replay.{finishBy, demotionBy, verdictBy, recordOf, recordBy}
 use Rattle.bridge.specs.Course.{Course, stateIn, contentionFreeIn, demotedIn, finishedIn, finishIn, demotionIn}
 use Rattle.legal.specs.Legal.{legal}
 use Rattle.theory.specs.Lawful.{Lawful, Attends}
@@ -91,7 +94,8 @@ idler-lawful =
     record { tasks-few = g .tasks-few; good = g .good; named = g .named; separate = g .separate }
 
 idler-busy : contentionFreeIn idler 0 ≡ false
-unfolding sum tab mapFrom availability availabilities count freeCount present judged joined demoted jobsNow contentionFree releasedIn stateIn contentionFreeIn
+unfolding sum tab mapFrom availability availabilities count freeCount present judged joined demoted jobsNow contentionFree releasedIn
+    stateIn contentionFreeIn
 idler-busy = refl
 
 pub idler-attends : Attends idler 10

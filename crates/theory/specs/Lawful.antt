@@ -24,7 +24,8 @@ Attends k e = (t i : ℕ) → t < e → i < 32 → contentionFreeIn k t ≡ true
 -- the releases are of tasks of a good table, and those of one task are at least T apart
 pub record Lawful (k : Course) : Type 0 where
   pub tasks-few : taskCount (k .setup .table) ≤ 32
-  pub good : (i : ℕ) → i < taskCount (k .setup .table) → Good (period (k .setup .table) i) (execution (k .setup .table) i) (deadline (k .setup .table) i)
+  pub good : (i : ℕ) → i < taskCount (k .setup .table)
+      → Good (period (k .setup .table) i) (execution (k .setup .table) i) (deadline (k .setup .table) i)
   pub named : (t i : ℕ) → k .released t i ≡ true → i < taskCount (k .setup .table)
   pub separate : (i u v : ℕ) → k .released u i ≡ true → k .released v i ≡ true → u < v → u + period (k .setup .table) i ≤ v
 
@@ -42,7 +43,8 @@ module _ (k : Course) where
     pub counted-in : present (countedIn k t) i ≡ isPresent (foundIn k t i)
     unfolding present
     counted-in =
-        ap isPresent (demoted-at i l (k .setup) (readied (k .setup) t (k .released t) (stateIn k t)) (readied-full _ _ _ _ (course-full k t)) ∙
+        ap isPresent (demoted-at i l (k .setup) (readied (k .setup) t (k .released t) (stateIn k t))
+        (readied-full _ _ _ _ (course-full k t)) ∙
         ap (demotedJob (demoting (k .setup .policy))) (readied-at i l (k .setup) t (k .released t) (stateIn k t) (course-full k t))) ∙
         kept-demoted (demoting (k .setup .policy)) (foundIn k t i) .there
 

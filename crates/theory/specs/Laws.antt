@@ -12,7 +12,8 @@ use Rattle.rules.specs.Limits.{maxTasks}
 use Rattle.rules.specs.Case.{Case, deadline, releaseCount, timeOf, nameOf}
 use Rattle.rules.specs.Refusals.{Accepted}
 use Rattle.rules.specs.Slot.{jobAt, isDemoted, dueOf, present, readied, demoted, jobsNow, opened, ran}
-use Rattle.rules.specs.Replay.{setupIn, releasedAt, stateAt, closing, ranAt, finishedAt, missedAt, slotsBy, finishBy, verdictBy, recordBy, metJobs, missedJobs, openJobs}
+use Rattle.rules.specs.Replay.{setupIn, releasedAt, stateAt, closing, ranAt, finishedAt, missedAt, slotsBy, finishBy, verdictBy, recordBy}
+use Rattle.rules.specs.Replay.{metJobs, missedJobs, openJobs}
 use Rattle.bridge.specs.Stands.{replayOf, replay-state}
 use Rattle.legal.specs.Legal.{legal}
 use Rattle.bridge.specs.Records.{taskAt}
@@ -57,10 +58,12 @@ totals c = all-marked c (c .end) 0 (releaseCount (c .trace))
 -- ---- finishes
 -- a finish lies after the release, and not after the deadline or the end
 pub finish-lies : (c : Case) (j : ℕ) → 0 < recordBy c (c .end) j .finish
-    → (timeOf (c .trace) j < recordBy c (c .end) j .finish) × (recordBy c (c .end) j .finish ≤ dueAt c j) × (recordBy c (c .end) j .finish ≤ c .end)
+    → (timeOf (c .trace) j < recordBy c (c .end) j .finish) × (recordBy c (c .end) j .finish ≤ dueAt c j)
+    × (recordBy c (c .end) j .finish ≤ c .end)
 unfolding recordBy finishBy slotsBy
 finish-lies c j h =
-    let r = first-in (λ t. finishedAt c t (taskAt c j)) (timeOf (c .trace) j) (min (deadline (c .table) (taskAt c j)) (c .end - timeOf (c .trace) j)) h in
+    let r = first-in (λ t. finishedAt c t (taskAt c j)) (timeOf (c .trace) j)
+    (min (deadline (c .table) (taskAt c j)) (c .end - timeOf (c .trace) j)) h in
     (r .0, omega (arith, r .1), omega (arith, r .0, r .1))
 
 -- met is: finished
@@ -75,7 +78,8 @@ pub later-releases : (c : Case) (rs : List ℕ) (j k : ℕ) → timeOf rs k ≡ 
     → ((t i : ℕ) → t < dueAt c j → releasedAt c t i ≡ releasedAt (retraced rs c) t i)
     → recordBy (retraced rs c) (c .end) k ≡ recordBy c (c .end) j
 unfolding recordBy
-later-releases c rs j k time name same = rw (time, name) (job-same c rs (dueAt c j) same (taskAt c j) (timeOf (c .trace) j) (c .end) (omega arith))
+later-releases c rs j k time name same =
+    rw (time, name) (job-same c rs (dueAt c j) same (taskAt c j) (timeOf (c .trace) j) (c .end) (omega arith))
 
 -- ---- missed and open, by the states
 -- missed is: removed by step 1 at a deadline that is not after the end
@@ -94,7 +98,8 @@ removed-is-missed c ok t i come l e =
 
 -- open is: there, with its deadline, when step 1 of the end is done
 pub open-is-left : (c : Case) → Accepted c → (j : ℕ) → j < releaseCount (c .trace)
-    → (recordBy c (c .end) j .verdict ≡ 3) ↔ ((present (closing c) (taskAt c j) ≡ true) × (dueOf (jobAt (closing c) (taskAt c j)) ≡ dueAt c j))
+    → (recordBy c (c .end) j .verdict ≡ 3) ↔ ((present (closing c) (taskAt c j) ≡ true)
+    × (dueOf (jobAt (closing c) (taskAt c j)) ≡ dueAt c j))
 unfolding recordBy verdictBy present
 open-is-left c ok j h = (open-left c (legal c ok) j h, λ e. left-open c (legal c ok) j h (e .0) (e .1))
 

@@ -12,7 +12,8 @@ use borrow.Author.Tests.{ltb-true, eqb-true, eq-eqb, le-ltb, lt-ltb}
 use Rattle.rules.specs.declared.Job.{Job}
 use Rattle.rules.specs.declared.Run.{Run}
 use Rattle.rules.specs.Words.{countIn}
-use Rattle.rules.specs.Slot.{Setup, jobAt, isPresent, isDemoted, kind, dueOf, inTurn, present, jobsNow, jobBefore, comesBefore, rank, chosen}
+use Rattle.rules.specs.Slot.{Setup, jobAt, isPresent, isDemoted, kind, dueOf, inTurn, present, jobsNow, jobBefore, comesBefore, rank}
+use Rattle.rules.specs.Slot.{chosen}
 use Rattle.bridge.specs.Jobs.{kind-normal, kind-demoted}
 use Rattle.lists.specs.Tests.{and-left, and-right}
 use Rattle.theory.specs.Counting.{and-both, count-lt, ranked}
@@ -58,7 +59,8 @@ turn-self : (a : ℕ) (x : Bool) → x ≡ false → inTurn a a x ≡ false
 turn-self a x e = rw (le-ltb a a (le-refl a), e) (and-false (eqb a a))
 
 -- ---- the whole order, under any policy and at any time
-before-trans : (p now : ℕ) (a b c : Job) (i j k : ℕ) → jobBefore p now a i b j ≡ true → jobBefore p now b j c k ≡ true → jobBefore p now a i c k ≡ true
+before-trans : (p now : ℕ) (a b c : Job) (i j k : ℕ) → jobBefore p now a i b j ≡ true → jobBefore p now b j c k ≡ true
+    → jobBefore p now a i c k ≡ true
 unfolding jobBefore
 before-trans p now a b c i j k x y =
     and-both (isPresent a) _ (and-left (isPresent a) _ x)
@@ -93,7 +95,8 @@ module _ (g : Setup) (now : ℕ) (r : Run) where
   rank-below : (i : ℕ) → i < 32 → present r i ≡ true → rank g now r i < countIn (present r) 0 32
   unfolding rank present jobBefore
   rank-below i l e =
-      count-lt (λ j. comesBefore g now r j i) (present r) 0 32 (λ j x y h. and-left (isPresent (jobAt r j)) _ h) i (omega arith) (omega arith) (self i) e
+      count-lt (λ j. comesBefore g now r j i) (present r) 0 32 (λ j x y h. and-left (isPresent (jobAt r j)) _ h) i (omega arith)
+      (omega arith) (self i) e
 
   rank-distinct : (i j : ℕ) → i < j → j < 32 → present r i ≡ true → present r j ≡ true → rank g now r i ≡ rank g now r j → ⊥
   unfolding present
@@ -124,7 +127,8 @@ module _ (g : Setup) (now : ℕ) (r : Run) where
       and-both (present r i) _ e (lt-ltb _ _ k)
 
   -- where a demoted job runs, every normal job that is there runs too
-  pub demoted-last : (j i : ℕ) → j < 32 → chosen g now r i ≡ true → isDemoted (jobAt r i) ≡ true → present r j ≡ true → isDemoted (jobAt r j) ≡ false
+  pub demoted-last : (j i : ℕ) → j < 32 → chosen g now r i ≡ true → isDemoted (jobAt r i) ≡ true → present r j ≡ true
+      → isDemoted (jobAt r j) ≡ false
       → chosen g now r j ≡ true
   unfolding present jobBefore
   demoted-last j i l e low there high =

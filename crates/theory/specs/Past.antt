@@ -6,7 +6,8 @@ use Prim.Native.Nat.{ℕ, zero, suc, _+_, _-_, min, _≤_, _<_}
 use native.Mathlib.Omega.{arith}
 use Rattle.rules.specs.Case.{Case, caseOf, deadline}
 use Rattle.rules.specs.Slot.{TaskSet, after, finished, demotedNow}
-use Rattle.rules.specs.Replay.{setupIn, releasedAt, stateFrom, stateAt, finishedAt, demotedAt, slotsBy, finishBy, demotionBy, verdictBy, jobRecord}
+use Rattle.rules.specs.Replay.{setupIn, releasedAt, stateFrom, stateAt, finishedAt, demotedAt, slotsBy, finishBy, demotionBy, verdictBy}
+use Rattle.rules.specs.Replay.{jobRecord}
 use Rattle.bridge.specs.Stands.{state-next}
 use Rattle.theory.specs.Counting.{first-cong}
 

@@ -20,7 +20,8 @@ use Rattle.bridge.specs.Jobs.{Kept, kept-opened, free-opened, falls, GoesOn, we
 unfoldable pub story : (ℕ → Bool) → (ℕ → Bool) → ℕ → Job → ℕ → Job
 story calm works a j zero = j
 story calm works a j (suc n) =
-    pick (works (a + n)) (workedJob (openedJob true (calm (a + n)) (story calm works a j n))) (openedJob true (calm (a + n)) (story calm works a j n))
+    pick (works (a + n)) (workedJob (openedJob true (calm (a + n)) (story calm works a j n)))
+    (openedJob true (calm (a + n)) (story calm works a j n))
 
 -- in its first D slots the job is worked in each contention-free one that finds it there
 abbrev pub Attended : (ℕ → Bool) → (ℕ → Bool) → ℕ → Job → ℕ → Type 0
@@ -103,7 +104,8 @@ module _ (calm works : ℕ → Bool) (a C F due D : ℕ) (some : 1 ≤ C) (atten
   low-from : (n d : ℕ) → Low (story calm works a j n) → Low (story calm works a j (n + d))
   unfolding story
   low-from n zero h = rw (add-zero n) h
-  low-from n (suc d) h = rw (add-suc n d) (low-slot (calm (a + (n + d))) (works (a + (n + d))) (story calm works a j (n + d)) (low-from n d h))
+  low-from n (suc d) h = rw (add-suc n d)
+      (low-slot (calm (a + (n + d))) (works (a + (n + d))) (story calm works a j (n + d)) (low-from n d h))
 
   module _ (enough : F ≤ countIn calm a D) where
     -- after D slots the job is not there as a demoted one
@@ -113,7 +115,8 @@ module _ (calm works : ℕ → Bool) (a C F due D : ℕ) (some : 1 ≤ C) (atten
         omega (arith, o .some, o .covered e)
 
     -- so if it is demoted at any time up to then, it is finished by then
-    pub low-finishes : (n : ℕ) → n ≤ D → isDemoted (story calm works a (Normal C F due) n) ≡ true → story calm works a (Normal C F due) D ≡ Idle
+    pub low-finishes : (n : ℕ) → n ≤ D → isDemoted (story calm works a (Normal C F due) n) ≡ true
+        → story calm works a (Normal C F due) D ≡ Idle
     low-finishes n h e = go (isPresent (story calm works a j D)) refl
       where
         low : Low (story calm works a j D)

@@ -35,7 +35,8 @@ one-mark zero true = refl
 one-mark zero false = refl
 one-mark (suc f) come = refl
 
-pub all-marked : (c : Case) (e k n : ℕ) → marked 1 (tab (recordBy c e) k n) + marked 2 (tab (recordBy c e) k n) + marked 3 (tab (recordBy c e) k n) ≡ n
+pub all-marked : (c : Case) (e k n : ℕ) → marked 1 (tab (recordBy c e) k n) + marked 2 (tab (recordBy c e) k n) + marked 3
+    (tab (recordBy c e) k n) ≡ n
 unfolding marked tab recordBy verdictBy
 all-marked c e k zero = refl
 all-marked c e k (suc n) =

@@ -17,7 +17,8 @@ pub extern "C" fn thrumcomb_counts(
     results: &mut [usize; 1],
     place: &mut u32,
 ) -> u32
-    ensures { λ r. ⌜ CountsTold procs (now (table .entry)) (now (out .entry)) (now (out .exit)) (seen r (now (place .entry)) (now (place .exit)) (now (results .entry)) (now (results .exit))) ⌝ }
+    ensures { λ r. ⌜ CountsTold procs (now (table .entry)) (now (out .entry)) (now (out .exit))
+        (seen r (now (place .entry)) (now (place .exit)) (now (results .entry)) (now (results .exit))) ⌝ }
 {
     let answer = counts::counts(procs, table, out);
     match answer {
@@ -44,7 +45,8 @@ pub extern "C" fn thrumcomb_replay(
     results: &mut [usize; 3],
     place: &mut u32,
 ) -> u32
-    ensures { λ r. ⌜ ReplayTold (caseOf procs policy (now (table .entry)) end (now (trace .entry))) (now (out .entry)) (now (out .exit)) (seen r (now (place .entry)) (now (place .exit)) (now (results .entry)) (now (results .exit))) ⌝ }
+    ensures { λ r. ⌜ ReplayTold (caseOf procs policy (now (table .entry)) end (now (trace .entry))) (now (out .entry)) (now (out .exit))
+        (seen r (now (place .entry)) (now (place .exit)) (now (results .entry)) (now (results .exit))) ⌝ }
 {
     let answer = engine::replay(procs, policy, table, end, trace, out);
     match answer {
@@ -71,7 +73,8 @@ pub extern "C" fn thrumcomb_running_set(
     results: &mut [usize; 1],
     place: &mut u32,
 ) -> u32
-    ensures { λ r. ⌜ RunningTold (caseOf procs policy (now (table .entry)) end (now (trace .entry))) slot (seen r (now (place .entry)) (now (place .exit)) (now (results .entry)) (now (results .exit))) ⌝ }
+    ensures { λ r. ⌜ RunningTold (caseOf procs policy (now (table .entry)) end (now (trace .entry))) slot (seen r (now (place .entry))
+        (now (place .exit)) (now (results .entry)) (now (results .exit))) ⌝ }
 {
     let answer = engine::running(procs, policy, table, end, trace, slot);
     match answer {
@@ -95,7 +98,8 @@ pub extern "C" fn thrumcomb_read(
     results: &mut [usize; 5],
     place: &mut u32,
 ) -> u32
-    ensures { λ r. ⌜ ReadTold (now (text .entry)) (now (tasks .entry)) (now (tasks .exit)) (now (releases .entry)) (now (releases .exit)) (seen r (now (place .entry)) (now (place .exit)) (now (results .entry)) (now (results .exit))) ⌝ }
+    ensures { λ r. ⌜ ReadTold (now (text .entry)) (now (tasks .entry)) (now (tasks .exit)) (now (releases .entry)) (now (releases .exit))
+        (seen r (now (place .entry)) (now (place .exit)) (now (results .entry)) (now (results .exit))) ⌝ }
 {
     let answer = reader::read(text, tasks, releases);
     match answer {
@@ -128,7 +132,8 @@ pub extern "C" fn thrumcomb_write(
     results: &mut [usize; 1],
     place: &mut u32,
 ) -> u32
-    ensures { λ r. ⌜ WriteTold (caseOf procs policy (now (table .entry)) end (now (trace .entry))) (now (out .entry)) (now (out .exit)) (seen r (now (place .entry)) (now (place .exit)) (now (results .entry)) (now (results .exit))) ⌝ }
+    ensures { λ r. ⌜ WriteTold (caseOf procs policy (now (table .entry)) end (now (trace .entry))) (now (out .entry)) (now (out .exit))
+        (seen r (now (place .entry)) (now (place .exit)) (now (results .entry)) (now (results .exit))) ⌝ }
 {
     let answer = writer::write(procs, policy, table, end, trace, out);
     match answer {

@@ -13,7 +13,8 @@ use Rattle.wishes.specs.declared.Wish.{Wish}
 use Rattle.wishes.specs.declared.Wish.the-variants.{Unknown, Help, Replay, Counts, Slot, Write}
 use Rattle.wishes.proofs.Wish.{the-type}
 
-none-of-five : {a b d e f x : ℕ} → OneOf (a ∷ b ∷ d ∷ e ∷ f ∷ []) x → (x ≡ a → ⊥) → (x ≡ b → ⊥) → (x ≡ d → ⊥) → (x ≡ e → ⊥) → (x ≡ f → ⊥) → ⊥
+none-of-five : {a b d e f x : ℕ} → OneOf (a ∷ b ∷ d ∷ e ∷ f ∷ []) x → (x ≡ a → ⊥) → (x ≡ b → ⊥) → (x ≡ d → ⊥) → (x ≡ e → ⊥) → (x ≡ f → ⊥)
+    → ⊥
 none-of-five h p q r s t = ⊎-elim p (⊎-elim q (⊎-elim r (⊎-elim s t))) h
 
 -- a wish that names no slot has no fault of its own
@@ -23,12 +24,14 @@ no-slot Unknown e h = refl
 no-slot Help e h = refl
 no-slot Replay e h = refl
 no-slot Counts e h = refl
-no-slot (Slot s) e h = absurd (none-of-five h (λ x. omega arith) (λ x. omega arith) (λ x. omega arith) (λ x. omega arith) (λ x. omega arith))
+no-slot (Slot s) e h = absurd (none-of-five h (λ x. omega arith) (λ x. omega arith) (λ x. omega arith) (λ x. omega arith)
+    (λ x. omega arith))
 no-slot Write e h = refl
 
 pub some-asked : (w : Wish) → OneOf (1 ∷ 2 ∷ 3 ∷ 4 ∷ 5 ∷ []) (tagOf the-type w) → isAsked w ≡ true
 unfolding isAsked
-some-asked Unknown h = absurd (none-of-five h (λ x. omega arith) (λ x. omega arith) (λ x. omega arith) (λ x. omega arith) (λ x. omega arith))
+some-asked Unknown h = absurd (none-of-five h (λ x. omega arith) (λ x. omega arith) (λ x. omega arith) (λ x. omega arith)
+    (λ x. omega arith))
 some-asked Help h = refl
 some-asked Replay h = refl
 some-asked Counts h = refl
@@ -36,7 +39,8 @@ some-asked (Slot s) h = refl
 some-asked Write h = refl
 
 -- ---- too many words, or none
-pub many : (n : ℕ) (a b c : List ℕ) → ((((Unit {0} × (n ≡ 1 → ⊥)) × (n ≡ 2 → ⊥)) × (n ≡ 3 → ⊥)) × (n ≡ 4 → ⊥)) → askedOf Unknown false ≡ wordsAsk n a b c
+pub many : (n : ℕ) (a b c : List ℕ) → ((((Unit {0} × (n ≡ 1 → ⊥)) × (n ≡ 2 → ⊥)) × (n ≡ 3 → ⊥)) × (n ≡ 4 → ⊥))
+    → askedOf Unknown false ≡ wordsAsk n a b c
 unfolding wordsAsk
 many zero a b c h = refl
 many (suc zero) a b c h = absurd (h .0 .0 .0 .1 refl)

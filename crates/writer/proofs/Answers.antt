@@ -30,7 +30,8 @@ pub case-at-fault : (c : Case) (n : ℕ) (f : Fault) → f ≡ caseFault c → (
 unfolding writeFault
 case-at-fault c n f e h = rw (← e) (next-some f _ h)
 
-pub room-at-fault : (c : Case) (n : ℕ) (f : Fault) → caseFault c .number ≡ 0 → f ≡ roomFault (length (caseText c)) n → (f .number ≡ 0 → ⊥) → writeFault c n ≡ f
+pub room-at-fault : (c : Case) (n : ℕ) (f : Fault) → caseFault c .number ≡ 0 → f ≡ roomFault (length (caseText c)) n → (f .number ≡ 0 → ⊥)
+    → writeFault c n ≡ f
 unfolding writeFault
 room-at-fault c n f a e h = next-none (caseFault c) _ a ∙ rw (← e) (next-some f noFault h)
 
@@ -44,7 +45,8 @@ pub refused : (c : Case) (room : List ℕ) (f : Fault) → writeFault c (length 
 unfolding writeAnswer writeBytes settled kept
 refused c room f e h = record { answer = rw (e, ne-eqb (f .number) 0 h); left = rw (e, ne-eqb (f .number) 0 h) }
 
-pub written : (c : Case) (room new : List ℕ) (n : ℕ) → writeFault c (length room) ≡ noFault → length (caseText c) ≤ length room → Laid 0 (caseText c) room new n
+pub written : (c : Case) (room new : List ℕ) (n : ℕ) → writeFault c (length room) ≡ noFault → length (caseText c) ≤ length room
+    → Laid 0 (caseText c) room new n
     → WritePromise c room (Written·.Text n) new
 unfolding writeAnswer writeBytes settled kept
 written c room new n e h p =

@@ -22,7 +22,8 @@ unfolding rowsText joinedText tab
 rows-none word width vs = refl
 
 -- a row is the line of the part of the numbers from its first to its last
-pub row-is : (word width : ℕ) (vs : List ℕ) (i : ℕ) → rowText word width vs i ≡ numberLine 9 word (take (i * width + width - i * width) (drop (i * width) vs))
+pub row-is : (word width : ℕ) (vs : List ℕ) (i : ℕ) → rowText word width vs i
+    ≡ numberLine 9 word (take (i * width + width - i * width) (drop (i * width) vs))
 unfolding rowText
 row-is word width vs i =
     let e : i * width + width - i * width ≡ width = omega arith in
@@ -40,7 +41,12 @@ module _ (word width : ℕ) (vs : List ℕ) where
   rows-grow n zero = rw (add-zero n) (omega arith)
   rows-grow n (suc d) =
       rw (add-suc n d)
-      (omega (arith, rows-grow n d, ap length (rows-more (n + d)), length-append (rowsText word width vs (n + d)) (rowText word width vs (n + d))))
+      (omega (
+        arith,
+        rows-grow n d,
+        ap length (rows-more (n + d)),
+        length-append (rowsText word width vs (n + d)) (rowText word width vs (n + d)),
+      ))
 
   -- a row and those before it take no more than all
   pub rows-le : (i n : ℕ) → i < n → length (rowsText word width vs i) + length (rowText word width vs i) ≤ length (rowsText word width vs n)
@@ -54,7 +60,8 @@ module _ (word width : ℕ) (vs : List ℕ) where
       )
 
   -- what rows take: a word and a newline each, and all their numbers
-  pub rows-length : (k n : ℕ) → length (wordOf word) ≡ k → length (rowsText word width vs n) ≡ n * suc k + length (numberFields 9 (take (n * width) vs))
+  pub rows-length : (k n : ℕ) → length (wordOf word) ≡ k → length (rowsText word width vs n)
+      ≡ n * suc k + length (numberFields 9 (take (n * width) vs))
   unfolding rowText fieldsText
   rows-length k zero e = rw (zero-mul width, zero-mul (suc k)) (ap length (rows-none word width vs))
   rows-length k (suc n) e =

@@ -28,13 +28,16 @@ head-length m p =
       length-append (policyName p) (10 ∷ []),
     )
 
-all-rows : (word width k n : ℕ) (vs : List ℕ) → length (wordOf word) ≡ k → length vs ≡ n * width → length (rowsText word width vs n) ≡ n * (k + 1) + length (numberFields 9 vs)
+all-rows : (word width k n : ℕ) (vs : List ℕ) → length (wordOf word) ≡ k → length vs ≡ n * width
+    → length (rowsText word width vs n) ≡ n * (k + 1) + length (numberFields 9 vs)
 all-rows word width k n vs e h =
     let whole : take (n * width) vs ≡ vs = take-all (n * width) vs (omega arith) in
     omega (arith, rw whole at (rows-length word width vs k n e))
 
 pub case-length : (m p : ℕ) (ts : List ℕ) (e : ℕ) (rs : List ℕ) → WholeRows ts rs
-    → length (caseText (caseOf m p ts e rs)) ≡ (7 + length (digitsOf m) + 8 + length (policyName p)) + (taskCount ts * 5 + length (numberFields 9 ts)) + 5 + length (digitsOf e) + (releaseCount rs * 8 + length (numberFields 9 rs))
+    → length (caseText (caseOf m p ts e rs))
+    ≡ (7 + length (digitsOf m) + 8 + length (policyName p)) + (taskCount ts * 5 + length (numberFields 9 ts)) + 5 + length
+    (digitsOf e) + (releaseCount rs * 8 + length (numberFields 9 rs))
 unfolding tailText endText lineText moreFields wordOf
 case-length m p ts e rs w =
     sym (ap length (case-parts m p ts e rs)) ∙

@@ -92,7 +92,8 @@ fn put_case(
     out: &mut [u8],
 ) -> usize
     requires { ⌜ length (caseText (caseOf procs policy (now table) end (now trace))) ≤ length (now out) ⌝ }
-    ensures { λ r. ⌜ Laid 0 (caseText (caseOf procs policy (now (table .entry)) end (now (trace .entry)))) (now (out .entry)) (now (out .exit)) r ⌝ }
+    ensures { λ r. ⌜ Laid 0 (caseText (caseOf procs policy (now (table .entry)) end (now (trace .entry)))) (now (out .entry))
+        (now (out .exit)) r ⌝ }
 {
     let tasks = put_head(out, procs, policy);
     let tail = put_rows(
@@ -127,7 +128,8 @@ pub fn write(
     trace: &[u32],
     out: &mut [u8],
 ) -> Written
-    ensures { λ r. ⌜ WritePromise (caseOf procs policy (now (table .entry)) end (now (trace .entry))) (now (out .entry)) r (now (out .exit)) ⌝ }
+    ensures { λ r. ⌜ WritePromise (caseOf procs policy (now (table .entry)) end (now (trace .entry)))
+        (now (out .entry)) r (now (out .exit)) ⌝ }
 {
     let found = case_fault(procs, policy, table, end, trace);
     let number = found.number;

@@ -28,13 +28,21 @@ same-length : tie.Need-same-length
 same-length c = search needs
 
 returns : tie.Need-returns
-returns c = refusal-shown _ _ _ _ _ _ _ _ _ _ (c .before .before .before .before .enum-told .given .1) (c .before .before .before .before .before .before .before .before .read .ensures .answer) refl refl (c .before .before .put-refusal .ensures)
+returns c =
+    let enum-told-here = c .before .before .before .before .enum-told in
+    let read-here = c .before .before .before .before .before .before .before .before .read in
+    refusal-shown _ _ _ _ _ _ _ _ _ _ (enum-told-here .given .1)
+    (read-here .ensures .answer) refl refl (c .before .before .put-refusal .ensures)
 
 mul-t : tie.Need-mul-t
-mul-t c = omega (arith, few-tasks _ _ _ _ _ _ _ _ _ (c .before .taken .given .1) (c .before .before .before .before .before .read .ensures .answer))
+mul-t c =
+    let read-here = c .before .before .before .before .before .read in
+    omega (arith, few-tasks _ _ _ _ _ _ _ _ _ (c .before .taken .given .1) (read-here .ensures .answer))
 
 mul-r : tie.Need-mul-r
-mul-r c = omega (arith, few-releases _ _ _ _ _ _ _ _ _ (c .before .taken .given .1) (c .before .before .before .before .before .read .ensures .answer))
+mul-r c =
+    let read-here = c .before .before .before .before .before .read in
+    omega (arith, few-releases _ _ _ _ _ _ _ _ _ (c .before .taken .given .1) (read-here .ensures .answer))
 
 sub-put-wish : tie.Need-sub-put-wish
 sub-put-wish c = search needs
@@ -43,7 +51,14 @@ part-put-wish-start : tie.Need-part-put-wish-start
 part-put-wish-start c = search needs
 
 part-put-wish-end : tie.Need-part-put-wish-end
-part-put-wish-end c = omega (arith, rows-long _ _ _ _ _ _ _ _ _ (c .before .before .before .taken .given .1) (c .before .before .before .before .before .before .before .read .ensures .answer) _ _ (c .before .before .before .before .before .before .before .read .ensures .left-tasks) (c .before .before .before .before .before .before .before .read .ensures .left-releases))
+part-put-wish-end c =
+    let taken = c .before .before .before .taken in
+    let read-here = c .before .before .before .before .before .before .before .read in
+    omega (
+      arith,
+      rows-long _ _ _ _ _ _ _ _ _ (taken .given .1) (read-here .ensures .answer) _ _ (read-here .ensures .left-tasks)
+          (read-here .ensures .left-releases),
+    )
 
 sub-put-wish-2 : tie.Need-sub-put-wish-2
 sub-put-wish-2 c = search needs
@@ -52,16 +67,34 @@ part-put-wish-start-2 : tie.Need-part-put-wish-start-2
 part-put-wish-start-2 c = search needs
 
 part-put-wish-end-2 : tie.Need-part-put-wish-end-2
-part-put-wish-end-2 c = omega (arith, times-long _ _ _ _ _ _ _ _ _ (c .before .before .before .before .before .taken .given .1) (c .before .before .before .before .before .before .before .before .before .read .ensures .answer) _ _ (c .before .before .before .before .before .before .before .before .before .read .ensures .left-tasks) (c .before .before .before .before .before .before .before .before .before .read .ensures .left-releases))
+part-put-wish-end-2 c =
+    let taken = c .before .before .before .before .before .taken in
+    let read-here = c .before .before .before .before .before .before .before .before .before .read in
+    omega (
+      arith,
+      times-long _ _ _ _ _ _ _ _ _ (taken .given .1) (read-here .ensures .answer) _ _ (read-here .ensures .left-tasks)
+          (read-here .ensures .left-releases),
+    )
 
 put-wish-requires : tie.Need-put-wish-requires
-put-wish-requires c κs = (c .before .before .before .before .before .before .before .before .before .before .before .before .before .before .before .pre, taken-stands _ _ _ _ _ _ _ _ _ (c .before .before .before .before .before .before .taken .given .1) (c .before .before .before .before .before .before .before .before .before .before .read .ensures .answer) _ _ (c .before .before .before .before .before .before .before .before .before .before .read .ensures .left-tasks) (c .before .before .before .before .before .before .before .before .before .before .read .ensures .left-releases))
+put-wish-requires c κs =
+    let start = c .before .before .before .before .before .before .before .before .before .before .before .before .before .before .before in
+    let taken = c .before .before .before .before .before .before .taken in
+    let read-here = c .before .before .before .before .before .before .before .before .before .before .read in (
+      start .pre,
+      taken-stands _ _ _ _ _ _ _ _ _ (taken .given .1) (read-here .ensures .answer) _ _ (read-here .ensures .left-tasks)
+          (read-here .ensures .left-releases),
+    )
 
 same-length-2 : tie.Need-same-length-2
 same-length-2 c = search needs
 
 returns-2 : tie.Need-returns-2
-returns-2 c = taken-shown _ _ _ _ _ _ _ _ _ (c .before .before .before .before .before .before .before .before .before .taken .given .1) (c .before .before .before .before .before .before .before .before .before .before .before .before .before .read .ensures .answer) _ _ (c .before .before .before .before .before .before .before .before .before .before .before .before .before .read .ensures .left-tasks) (c .before .before .before .before .before .before .before .before .before .before .before .before .before .read .ensures .left-releases) _ _ _ _ (c .before .before .put-wish .ensures)
+returns-2 c =
+    let taken = c .before .before .before .before .before .before .before .before .before .taken in
+    let read-here = c .before .before .before .before .before .before .before .before .before .before .before .before .before .read in
+    taken-shown _ _ _ _ _ _ _ _ _ (taken .given .1) (read-here .ensures .answer) _ _ (read-here .ensures .left-tasks)
+    (read-here .ensures .left-releases) _ _ _ _ (c .before .before .put-wish .ensures)
 
 pub answer-spec : {M : Type 1} → statement M
 answer-spec =

@@ -24,10 +24,17 @@ asked-fault-requires : tie.Need-asked-fault-requires
 asked-fault-requires c κs = search needs
 
 returns : tie.Need-returns
-returns c = fault-refused (c .before .before .before .before .before .before .before .before .before .args .wish) _ _ _ _ (c .before .before .before .before .before .read .ensures .answer) _ _ (c .before .taken .given .1) refl refl
+returns c =
+    let start = c .before .before .before .before .before .before .before .before .before in
+    let read-here = c .before .before .before .before .before .read in
+    fault-refused (start .args .wish) _ _ _ _ (read-here .ensures .answer) _ _ (c .before .taken .given .1) refl refl
 
 returns-2 : tie.Need-returns-2
-returns-2 c = c .asked-fault .ensures ∙ fault-read (c .before .before .before .before .before .before .before .before .before .before .args .wish) _ _ _ _ (c .before .before .before .before .before .before .read .ensures .answer) _ _ _ _ _ (c .before .before .taken2 .given .1)
+returns-2 c =
+    let start = c .before .before .before .before .before .before .before .before .before .before in
+    let read-here = c .before .before .before .before .before .before .read in
+    c .asked-fault .ensures ∙ fault-read (start .args .wish) _ _ _ _ (read-here .ensures .answer) _ _ _ _ _
+    (c .before .before .taken2 .given .1)
 
 pub fault-of-spec : {M : Type 1} → statement M
 fault-of-spec =

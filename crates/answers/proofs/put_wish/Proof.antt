@@ -16,7 +16,9 @@ enum-told-2 : tie.Need-enum-told-2
 enum-told-2 c = search needs
 
 put-free-counts-requires : tie.Need-put-free-counts-requires
-put-free-counts-requires c κs = (c .before .before .before .before .before .before .pre .0, counts-fits _ (c .before .before .before .before .before .before .pre .1))
+put-free-counts-requires c κs =
+    let start = c .before .before .before .before .before .before in
+    (start .pre .0, counts-fits _ (start .pre .1))
 
 enum-known-wish : tie.Need-enum-known-wish
 enum-known-wish c = search needs

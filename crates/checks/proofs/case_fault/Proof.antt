@@ -36,7 +36,10 @@ or-next-requires c κs = search needs
 
 returns-2 : tie.Need-returns-2
 unfolding caseFault
-returns-2 c = c .or-next .ensures ∙ ap₂ orNext (c .before .before .before .head-checks .ensures) (c .before .trace-checks .ensures) ∙ row-join (head (c .before .before .before)) (others (c .before .before .before))
+returns-2 c =
+    let head-checks = c .before .before .before .head-checks in
+    c .or-next .ensures ∙ ap₂ orNext (head-checks .ensures) (c .before .trace-checks .ensures)
+    ∙ row-join (head (c .before .before .before)) (others (c .before .before .before))
 
 pub case-fault-spec : {M : Type 1} → statement M
 case-fault-spec =

@@ -35,12 +35,17 @@ or-next-requires-2 c κs = search needs
 returns : tie.Need-returns
 unfolding countsFault
 returns c =
+    let room-fault = c .before .before .before .room-fault in
+    let task-count = c .before .before .before .before .task-count in
+    let procs-fault = c .before .before .before .before .before .before .procs-fault in
+    let table-checks = c .before .before .before .before .before .table-checks in
     let start = c .before .before .before .before .before .before .before .before in
     let ts = start .args .table .now in
-    let fits = c .before .before .before .room-fault .ensures ∙ ap (λ (n : ℕ). roomFault n (start .args .room)) (c .before .before .before .before .task-count .ensures) in
+    let fits = room-fault .ensures ∙ ap (λ (n : ℕ). roomFault n (start .args .room)) (task-count .ensures) in
     let room = c .before .before .first-of-one .ensures ∙ ap (λ (f : Fault). first (f ∷ [])) fits in
-    c .or-next2 .ensures ∙ ap₂ orNext (c .before .before .before .before .before .before .procs-fault .ensures)
-    (c .before .or-next .ensures ∙ ap₂ orNext (c .before .before .before .before .before .table-checks .ensures) room ∙ row-join (tableTests ts) (roomFault (taskCount ts) (start .args .room) ∷ []))
+    c .or-next2 .ensures ∙ ap₂ orNext (procs-fault .ensures)
+    (c .before .or-next .ensures ∙ ap₂ orNext (table-checks .ensures) room
+    ∙ row-join (tableTests ts) (roomFault (taskCount ts) (start .args .room) ∷ []))
 
 pub counts-fault-spec : {M : Type 1} → statement M
 counts-fault-spec =

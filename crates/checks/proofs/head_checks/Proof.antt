@@ -19,7 +19,15 @@ or-next-requires-2 : tie.Need-or-next-requires-2
 or-next-requires-2 c κs = search needs
 
 returns : tie.Need-returns
-returns c = rw (c .before .or-next .ensures, c .before .before .table-checks .ensures, c .before .before .before .policy-fault .ensures, c .before .before .before .before .procs-fault .ensures) at (c .or-next2 .ensures)
+returns c =
+    let policy-fault = c .before .before .before .policy-fault in
+    let procs-fault = c .before .before .before .before .procs-fault in
+    rw (
+      c .before .or-next .ensures,
+      c .before .before .table-checks .ensures,
+      policy-fault .ensures,
+      procs-fault .ensures,
+    ) at (c .or-next2 .ensures)
 
 pub head-checks-spec : {M : Type 1} → statement M
 head-checks-spec =

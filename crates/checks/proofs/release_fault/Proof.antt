@@ -38,11 +38,18 @@ since c = sinceTest (table c) (trace c) (j c) ∷ []
 
 found : (c : tie.After-first-of-three) → c .first-of-three .result ≡ first (near c)
 found c =
-    near-found (table c) (start c .args .end) (trace c) (j c) _ _ _ _ _ _ _ _ (c .before .before .before .before .before .before .name-of .ensures) (c .before .before .before .before .before .before .before .time-of .ensures) (c .before .before .before .before .before .is-named .ensures)
-    (c .before .before .in-order .ensures) (c .before .before .before .before .refuse-unless .ensures) (c .before .before .before .refuse-unless2 .ensures) (c .before .refuse-unless3 .ensures) (c .first-of-three .ensures)
+    let name-of = c .before .before .before .before .before .before .name-of in
+    let time-of = c .before .before .before .before .before .before .before .time-of in
+    let is-named = c .before .before .before .before .before .is-named in
+    let refuse-unless = c .before .before .before .before .refuse-unless in
+    let refuse-unless2 = c .before .before .before .refuse-unless2 in
+    near-found (table c) (start c .args .end) (trace c) (j c) _ _ _ _ _ _ _ _ (name-of .ensures) (time-of .ensures) (is-named .ensures)
+    (c .before .before .in-order .ensures) (refuse-unless .ensures) (refuse-unless2 .ensures) (c .before .refuse-unless3 .ensures)
+    (c .first-of-three .ensures)
 
 -- where they find nothing the release names a task of the table, of which there are few
-bounds : (c : tie.Else1) → (1 ≤ named-by (c .before)) × (named-by (c .before) ≤ taskCount (table (c .before))) × (named-by (c .before) ≤ maxTasks)
+bounds : (c : tie.Else1) → (1 ≤ named-by (c .before)) × (named-by (c .before) ≤ taskCount (table (c .before)))
+    × (named-by (c .before) ≤ maxTasks)
 bounds c =
     let d = c .before in
     let w = near-named (table d) (start d .args .end) (trace d) (j d) (row-passed _ (near d) (found d) (c .if1 .left)) in
@@ -52,7 +59,8 @@ abbrev read : tie.Else1 → ℕ
 read c = c .before .before .before .before .before .before .before .name-of .result
 
 -- what is kept of that task is the time of its last release
-kept : (c : tie.Else1) → getD (start (c .before) .args .last .now) (read c - 1) 0 ≡ lastBefore (trace (c .before)) (j (c .before)) (named-by (c .before))
+kept : (c : tie.Else1) → getD (start (c .before) .args .last .now) (read c - 1) 0
+    ≡ lastBefore (trace (c .before)) (j (c .before)) (named-by (c .before))
 kept c =
     let d = c .before in
     ap (λ (n : ℕ). getD (start d .args .last .now) (n - 1) 0) (d .before .before .before .before .before .before .name-of .ensures) ∙
@@ -105,13 +113,18 @@ element-copy-out-is-apart : tie.Need-element-copy-out-is-apart
 element-copy-out-is-apart c = omega (arith, bounds c, c .before .before .before .before .before .before .before .name-of .ensures)
 
 period-of-requires : tie.Need-period-of-requires
-period-of-requires c κs = omega (arith, bounds (c .before), c .before .before .before .before .before .before .before .before .name-of .ensures)
+period-of-requires c κs =
+    let name-of = c .before .before .before .before .before .before .before .before .name-of in
+    omega (arith, bounds (c .before), name-of .ensures)
 
 is-apart-requires : tie.Need-is-apart-requires
 is-apart-requires c κs =
     let e = c .before .before in
-    let d = e .before in
-    (rw (kept e) (start d .pre .4 _), rw (c .period-of .ensures, d .before .before .before .before .before .before .name-of .ensures) (start d .pre .0 .good (named-by d - 1) (omega (arith, bounds e)) .small))
+    let d = e .before in (
+      rw (kept e) (start d .pre .4 _),
+      rw (c .period-of .ensures, d .before .before .before .before .before .before .name-of .ensures)
+          (start d .pre .0 .good (named-by d - 1) (omega (arith, bounds e)) .small),
+    )
 
 refuse-unless-requires-4 : tie.Need-refuse-unless-requires-4
 refuse-unless-requires-4 c κs = search needs
@@ -125,11 +138,17 @@ or-next-requires c κs = search needs
 returns-2 : tie.Need-returns-2
 unfolding releaseFault
 returns-2 c =
+    let period-of = c .before .before .before .before .period-of in
+    let is-apart = c .before .before .before .is-apart in
     let e = c .before .before .before .before .before .before in
     let d = e .before in
-    let T = c .before .before .before .before .period-of .ensures ∙ ap (λ (n : ℕ). period (table d) (n - 1)) (d .before .before .before .before .before .before .name-of .ensures) in
-    let last = since-found (table d) (trace d) (j d) _ _ _ _ _ (kept e) T (d .before .before .before .before .before .before .before .time-of .ensures) (c .before .before .before .is-apart .ensures) (c .before .before .refuse-unless4 .ensures) in
-    c .or-next .ensures ∙ ap₂ orNext (found d) (c .before .first-of-one .ensures ∙ ap (λ (f : Fault). first (f ∷ [])) last) ∙ row-join (near d) (since d)
+    let T = period-of .ensures ∙ ap (λ (n : ℕ). period (table d) (n - 1))
+    (d .before .before .before .before .before .before .name-of .ensures) in
+    let last = since-found (table d) (trace d)
+    (j d) _ _ _ _ _ (kept e) T (d .before .before .before .before .before .before .before .time-of .ensures) (is-apart .ensures)
+    (c .before .before .refuse-unless4 .ensures) in
+    c .or-next .ensures ∙ ap₂ orNext (found d) (c .before .first-of-one .ensures ∙ ap (λ (f : Fault). first (f ∷ [])) last)
+    ∙ row-join (near d) (since d)
 
 pub release-fault-spec : {M : Type 1} → statement M
 release-fault-spec =

@@ -21,7 +21,8 @@ abbrev start : tie.Else1 Inv-loop μ-loop → tie.Start Inv-loop μ-loop
 start c = c .before .before .before .before .before .before .before .before
 
 -- a release with no fault names one of few tasks at a time that is not too late
-stands : (c : tie.Else1 Inv-loop μ-loop) → (1 ≤ nameOf (start c .args .trace .now) (c .before .before .before .before .loop .j)) × (nameOf (start c .args .trace .now) (c .before .before .before .before .loop .j) ≤ maxTasks)
+stands : (c : tie.Else1 Inv-loop μ-loop) → (1 ≤ nameOf (start c .args .trace .now) (c .before .before .before .before .loop .j))
+    × (nameOf (start c .args .trace .now) (c .before .before .before .before .loop .j) ≤ maxTasks)
     × (timeOf (start c .args .trace .now) (c .before .before .before .before .loop .j) < maxEnd)
 stands c =
     let p = passed _ _ _ _ _ (c .before .release-fault .ensures) (c .if1 .left) in
@@ -42,8 +43,11 @@ release-fault-requires c κs =
 
 returns : tie.Need-returns Inv-loop μ-loop
 returns c =
-    let l : c .before .before .before .before .loop .j < releaseCount (c .before .before .before .before .before .before .before .before .args .trace .now) = omega (arith, c .before .before .before .before .before .release-count .ensures) in
-    checked-hit _ _ _ _ _ (c .before .release-fault .ensures) _ (c .before .before .before .before .loop .inv .1) l (c .if1 .taken)
+    let start-here = c .before .before .before .before .before .before .before .before in
+    let looped = c .before .before .before .before .loop in
+    let release-count = c .before .before .before .before .before .release-count in
+    let l : looped .j < releaseCount (start-here .args .trace .now) = omega (arith, release-count .ensures) in
+    checked-hit _ _ _ _ _ (c .before .release-fault .ensures) _ (looped .inv .1) l (c .if1 .taken)
 
 time-of-requires : tie.Need-time-of-requires Inv-loop μ-loop
 time-of-requires c κs = search needs
@@ -77,7 +81,8 @@ loop-again c =
     let d = c .before .before in (
       omega arith,
       rw (c .name-of .ensures, c .before .time-of .ensures)
-          (checked-more _ _ _ _ _ (d .before .release-fault .ensures) _ (d .before .before .before .before .loop .inv .1) (start d .pre .0 .few) (start d .pre .2) (d .if1 .left)),
+          (checked-more _ _ _ _ _ (d .before .release-fault .ensures) _ (d .before .before .before .before .loop .inv .1)
+          (start d .pre .0 .few) (start d .pre .2) (d .if1 .left)),
     )
 
 fault-requires : tie.Need-fault-requires Inv-loop μ-loop
@@ -85,7 +90,9 @@ fault-requires c κs = search needs
 
 returns-2 : tie.Need-returns-2 Inv-loop μ-loop
 returns-2 c =
-    let e : c .before .before .loop .j ≡ releaseCount (c .before .before .before .before .before .before .args .trace .now) = omega (arith, c .before .before .before .release-count .ensures) in
+    let start-here = c .before .before .before .before .before .before in
+    let release-count = c .before .before .before .release-count in
+    let e : c .before .before .loop .j ≡ releaseCount (start-here .args .trace .now) = omega (arith, release-count .ensures) in
     checked-all _ _ _ _ _ (c .before .before .loop .inv .1) e _ (c .fault .ensures)
 
 pub releases-fault-spec : {M : Type 1} → statement M

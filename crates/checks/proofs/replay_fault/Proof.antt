@@ -27,8 +27,11 @@ first-of-two-requires c κs = search needs
 returns : tie.Need-returns
 unfolding replayFault
 returns c =
-    let fits = c .before .room-fault .ensures ∙ ap (λ (n : ℕ). roomFault (n * recordWidth) (c .before .before .before .before .before .before .args .room)) (c .before .before .release-count .ensures) in
-    c .first-of-two .ensures ∙ ap₂ (λ (f g : Fault). first (f ∷ g ∷ [])) (c .before .before .before .case-fault .ensures) fits
+    let start = c .before .before .before .before .before .before in
+    let case-fault = c .before .before .before .case-fault in
+    let fits = c .before .room-fault .ensures ∙ ap (λ (n : ℕ). roomFault (n * recordWidth) (start .args .room))
+    (c .before .before .release-count .ensures) in
+    c .first-of-two .ensures ∙ ap₂ (λ (f g : Fault). first (f ∷ g ∷ [])) (case-fault .ensures) fits
 
 pub replay-fault-spec : {M : Type 1} → statement M
 replay-fault-spec =

@@ -18,7 +18,8 @@ first-of-two-requires c κs = search needs
 
 returns : tie.Need-returns
 unfolding runningFault
-returns c = c .first-of-two .ensures ∙ ap₂ (λ (f g : Fault). first (f ∷ g ∷ [])) (c .before .before .case-fault .ensures) (c .before .slot-fault .ensures)
+returns c = c .first-of-two .ensures ∙ ap₂ (λ (f g : Fault). first (f ∷ g ∷ [])) (c .before .before .case-fault .ensures)
+    (c .before .slot-fault .ensures)
 
 pub running-fault-spec : {M : Type 1} → statement M
 running-fault-spec =

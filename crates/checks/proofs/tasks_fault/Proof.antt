@@ -28,8 +28,11 @@ task-fault-requires c κs = search needs
 
 returns : tie.Need-returns Inv-loop μ-loop
 returns c =
-    let l : c .before .before .before .loop .i < taskCount (c .before .before .before .before .before .before .args .table .now) = omega (arith, c .before .before .before .before .task-count .ensures) in
-    first-hit _ (c .before .before .before .loop .i) _ l (c .before .before .before .loop .inv .1) _ (c .if1 .taken) (sym (c .before .task-fault .ensures))
+    let start = c .before .before .before .before .before .before in
+    let looped = c .before .before .before .loop in
+    let task-count = c .before .before .before .before .task-count in
+    let l : looped .i < taskCount (start .args .table .now) = omega (arith, task-count .ensures) in
+    first-hit _ (looped .i) _ l (looped .inv .1) _ (c .if1 .taken) (sym (c .before .task-fault .ensures))
 
 add-i : tie.Need-add-i Inv-loop μ-loop
 add-i c = search needs
@@ -38,14 +41,18 @@ loop-less : tie.Need-loop-less Inv-loop μ-loop
 loop-less c = search needs
 
 loop-again : tie.Need-loop-again Inv-loop μ-loop
-loop-again c = (omega arith, none-more _ _ (c .before .before .before .loop .inv .1) (task-none _ _ (clear _ _ (c .before .task-fault .ensures) (c .if1 .left))))
+loop-again c =
+    let looped = c .before .before .before .loop in
+    (omega arith, none-more _ _ (looped .inv .1) (task-none _ _ (clear _ _ (c .before .task-fault .ensures) (c .if1 .left))))
 
 fault-requires : tie.Need-fault-requires Inv-loop μ-loop
 fault-requires c κs = search needs
 
 returns-2 : tie.Need-returns-2 Inv-loop μ-loop
 returns-2 c =
-    let e : c .before .before .loop .i ≡ taskCount (c .before .before .before .before .before .args .table .now) = omega (arith, c .before .before .before .task-count .ensures) in
+    let start = c .before .before .before .before .before in
+    let task-count = c .before .before .before .task-count in
+    let e : c .before .before .loop .i ≡ taskCount (start .args .table .now) = omega (arith, task-count .ensures) in
     c .fault .ensures ∙ sym (rw e at (c .before .before .loop .inv .1))
 
 pub tasks-fault-spec : {M : Type 1} → statement M

@@ -13,7 +13,8 @@ use Rattle.counts.proofs.count_of.Statement.{statement}
 use Rattle.counts.proofs.count_of.Tie as tie
 
 abbrev Inv-loop : tie.InvT-loop
-Inv-loop procs table slots tasks sum₀ i₀ s i = (i ≤ tasks) × (s ≤ i * maxAvailability) × (s ≡ sum (λ i. availability (period table i) (deadline table i) slots) 0 i)
+Inv-loop procs table slots tasks sum₀ i₀ s i = (i ≤ tasks) × (s ≤ i * maxAvailability)
+    × (s ≡ sum (λ i. availability (period table i) (deadline table i) slots) 0 i)
 
 abbrev μ-loop : tie.MeasureT-loop
 μ-loop procs table slots tasks sum₀ i₀ s i = tasks - i
@@ -63,11 +64,14 @@ loop-less c = search needs
 
 loop-again : tie.Need-loop-again Inv-loop μ-loop
 loop-again c =
+    let start-here = c .before .before .before .before .before .before .before in
+    let looped = c .before .before .before .before .loop in
     let v = c .before .before .before .before .loop .inv in
     let e = c .availability-of .ensures in (
       omega arith,
       omega (arith, e .1, v .1),
-      added (c .before .before .before .before .before .before .before .args .table .now) _ (c .before .before .before .before .loop .i) _ _ _ _ (v .2) (c .before .before .period-of .ensures) (c .before .deadline-of .ensures) (e .0),
+      added (start-here .args .table .now) _ (looped .i) _ _ _ _ (v .2) (c .before .before .period-of .ensures)
+          (c .before .deadline-of .ensures) (e .0),
     )
 
 add-shared : tie.Need-add-shared Inv-loop μ-loop

@@ -33,10 +33,17 @@ count-of-requires c κs =
     (q .0, q .1, omega (arith, c .deadline-of .ensures, g .fits, g .within, g .small))
 
 mul-out : tie.Need-mul-out Inv-loop μ-loop
-mul-out c = omega (arith, c .before .before .before .before .before .before .before .pre .0 .few, c .before .before .before .before .task-count .ensures)
+mul-out c =
+    let start = c .before .before .before .before .before .before .before in
+    let task-count = c .before .before .before .before .task-count in
+    omega (arith, start .pre .0 .few, task-count .ensures)
 
 slice-write-out : tie.Need-slice-write-out Inv-loop μ-loop
-slice-write-out c = omega (arith, laying-long _ _ _ _ (c .before .before .before .loop .inv .1), c .before .before .before .before .before .before .before .pre .2, c .before .before .before .before .task-count .ensures)
+slice-write-out c =
+    let start = c .before .before .before .before .before .before .before in
+    let looped = c .before .before .before .loop in
+    let task-count = c .before .before .before .before .task-count in
+    omega (arith, laying-long _ _ _ _ (looped .inv .1), start .pre .2, task-count .ensures)
 
 add-i : tie.Need-add-i Inv-loop μ-loop
 add-i c = search needs
@@ -47,16 +54,23 @@ loop-less c = search needs
 loop-again : tie.Need-loop-again Inv-loop μ-loop
 unfolding freeCount
 loop-again c =
+    let start = c .before .before .before .before .before .before .before in
+    let looped = c .before .before .before .loop in
+    let task-count = c .before .before .before .before .task-count in
     let w = c .before .before .before .loop .inv .1 in
-    let l : c .before .before .before .loop .i < length (c .before .before .before .before .before .before .before .args .out .now) = omega (arith, c .before .before .before .before .before .before .before .pre .2, c .before .before .before .before .task-count .ensures) in
-    (omega arith, laying-store _ _ _ _ 0 _ l w (c .count-of .ensures ∙ ap (count (c .before .before .before .before .before .before .before .args .procs) (c .before .before .before .before .before .before .before .args .table .now)) (c .before .deadline-of .ensures)))
+    let l : looped .i < length (start .args .out .now) = omega (arith, start .pre .2, task-count .ensures) in (
+      omega arith,
+      laying-store _ _ _ _ 0 _ l w (c .count-of .ensures
+          ∙ ap (count (start .args .procs) (start .args .table .now)) (c .before .deadline-of .ensures)),
+    )
 
 same-length : tie.Need-same-length Inv-loop μ-loop
 same-length c = laying-long _ _ _ _ (c .before .loop .inv .1)
 
 returns : tie.Need-returns Inv-loop μ-loop
 returns c =
-    let e : c .before .loop .i ≡ taskCount (c .before .before .before .before .before .args .table .now) = omega (arith, c .before .before .task-count .ensures) in
+    let start = c .before .before .before .before .before in
+    let e : c .before .loop .i ≡ taskCount (start .args .table .now) = omega (arith, c .before .before .task-count .ensures) in
     rw e at (c .before .loop .inv .1 .so-far)
 
 pub put-counts-spec : {M : Type 1} → statement M

@@ -30,18 +30,27 @@ replay-run-requires c κs =
 
 marked-in-requires : tie.Need-marked-in-requires
 marked-in-requires c κs =
-    let w = replay-clear _ _ (clear _ _ (c .before .before .before .before .before .before .before .replay-fault .ensures) (c .before .before .before .before .before .before .if1 .left)) in
-    (still-fits _ _ _ (c .before .before .before .replay-run .ensures), legal _ (w .0) .releases-few)
+    let replay-fault = c .before .before .before .before .before .before .before .replay-fault in
+    let if1 = c .before .before .before .before .before .before .if1 in
+    let replay-run = c .before .before .before .replay-run in
+    let w = replay-clear _ _ (clear _ _ (replay-fault .ensures) (if1 .left)) in
+    (still-fits _ _ _ (replay-run .ensures), legal _ (w .0) .releases-few)
 
 marked-in-requires-2 : tie.Need-marked-in-requires-2
 marked-in-requires-2 c κs =
-    let w = replay-clear _ _ (clear _ _ (c .before .before .before .before .before .before .before .before .before .replay-fault .ensures) (c .before .before .before .before .before .before .before .before .if1 .left)) in
-    (still-fits _ _ _ (c .before .before .before .before .before .replay-run .ensures), legal _ (w .0) .releases-few)
+    let replay-fault = c .before .before .before .before .before .before .before .before .before .replay-fault in
+    let if1 = c .before .before .before .before .before .before .before .before .if1 in
+    let replay-run = c .before .before .before .before .before .replay-run in
+    let w = replay-clear _ _ (clear _ _ (replay-fault .ensures) (if1 .left)) in
+    (still-fits _ _ _ (replay-run .ensures), legal _ (w .0) .releases-few)
 
 marked-in-requires-3 : tie.Need-marked-in-requires-3
 marked-in-requires-3 c κs =
-    let w = replay-clear _ _ (clear _ _ (c .before .before .before .before .before .before .before .before .before .before .before .replay-fault .ensures) (c .before .before .before .before .before .before .before .before .before .before .if1 .left)) in
-    (still-fits _ _ _ (c .before .before .before .before .before .before .before .replay-run .ensures), legal _ (w .0) .releases-few)
+    let replay-fault = c .before .before .before .before .before .before .before .before .before .before .before .replay-fault in
+    let if1 = c .before .before .before .before .before .before .before .before .before .before .if1 in
+    let replay-run = c .before .before .before .before .before .before .before .replay-run in
+    let w = replay-clear _ _ (clear _ _ (replay-fault .ensures) (if1 .left)) in
+    (still-fits _ _ _ (replay-run .ensures), legal _ (w .0) .releases-few)
 
 same-length : tie.Need-same-length
 same-length c = search needs
@@ -49,11 +58,13 @@ same-length c = search needs
 returns-2 : tie.Need-returns-2
 unfolding replayAnswer replayRoom
 returns-2 c =
+    let marked-in = c .before .before .before .before .marked-in in
     let e = c .before .before .before .before .before .before .before .before .before .before .before .before .replay-fault .ensures in
     let h = c .before .before .before .before .before .before .before .before .before .before .before .if1 .left in
     let o = c .before .before .before .before .before .before .before .before .replay-run .ensures in
     record {
-      answer = ap result (totals _ _ _ _ _ _ (total _ _ _ o 1 _ (c .before .before .before .before .marked-in .ensures)) (total _ _ _ o 2 _ (c .before .before .marked-in2 .ensures)) (total _ _ _ o 3 _ (c .marked-in3 .ensures))) ∙
+      answer = ap result (totals _ _ _ _ _ _ (total _ _ _ o 1 _ (marked-in .ensures))
+          (total _ _ _ o 2 _ (c .before .before .marked-in2 .ensures)) (total _ _ _ o 3 _ (c .marked-in3 .ensures))) ∙
           settles _ _ e _ h;
       left = o ∙ puts _ _ e _ _ h;
     }

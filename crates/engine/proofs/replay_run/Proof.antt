@@ -26,7 +26,9 @@ same-length c = search needs
 returns : tie.Need-returns
 unfolding roomAfter
 returns c =
-    let o = room-open _ (legal _ (c .before .before .before .before .before .before .before .before .before .before .before .before .pre .0)) _ _ (c .before .before .before .before .before .before .before .open-records .ensures) in
+    let start = c .before .before .before .before .before .before .before .before .before .before .before .before in
+    let open-records = c .before .before .before .before .before .before .before .open-records in
+    let o = room-open _ (legal _ (start .pre .0)) _ _ (open-records .ensures) in
     c .before .before .walk .ensures .1 refl ∙ same-room _ 0 _ _ _ o
 
 pub replay-run-spec : {M : Type 1} → statement M

@@ -39,7 +39,9 @@ slice-aggregate-walk c = search needs
 
 walk-requires : tie.Need-walk-requires
 walk-requires c κs =
-    let w = running-clear _ _ (clear _ _ (c .before .before .before .before .running-fault .ensures) (c .before .before .before .if1 .left)) in
+    let running-fault = c .before .before .before .before .running-fault in
+    let if1 = c .before .before .before .if1 in
+    let w = running-clear _ _ (clear _ _ (running-fault .ensures) (if1 .left)) in
     (w .0, (c .before .before .free-counts .ensures, (c .before .fresh-run .ensures, (omega (arith, w .1), λ z. absurd (false≢true z)))))
 
 set-number-requires : tie.Need-set-number-requires

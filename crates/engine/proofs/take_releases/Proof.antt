@@ -17,7 +17,9 @@ abbrev μ-loop : tie.MeasureT-loop
 μ-loop trace from clock place₀ released₀ n k₀ place released k = n - k
 
 -- the release at hand names one of 32 tasks
-named : (c : tie.Then1 Inv-loop μ-loop) → (1 ≤ nameOf (c .before .before .before .before .before .args .trace .now) (c .before .before .before .loop .k)) × (nameOf (c .before .before .before .before .before .args .trace .now) (c .before .before .before .loop .k) ≤ maxTasks)
+named : (c : tie.Then1 Inv-loop μ-loop) → (1 ≤ nameOf (c .before .before .before .before .before .args .trace .now)
+    (c .before .before .before .loop .k))
+    × (nameOf (c .before .before .before .before .before .args .trace .now) (c .before .before .before .loop .k) ≤ maxTasks)
 named c = c .before .before .before .before .before .pre .0 .named (c .before .before .before .loop .k) (omega arith)
 
 loop-holds : tie.Need-loop-holds Inv-loop μ-loop
@@ -68,9 +70,10 @@ loop-less c = search needs
 
 loop-again : tie.Need-loop-again Inv-loop μ-loop
 loop-again c =
+    let loop-test = c .before .before .before .loop-test in
     let l = c .before .before .before .before .loop in
     let q = c .before .before .before .before .before .before .pre in
-    (omega arith, taking-more _ _ (l .k) _ _ _ (q .0) (c .before .before .before .loop-test .taken) (c .before .if1 .taken) refl (l .inv .1))
+    (omega arith, taking-more _ _ (l .k) _ _ _ (q .0) (loop-test .taken) (c .before .if1 .taken) refl (l .inv .1))
 
 returns : tie.Need-returns Inv-loop μ-loop
 returns c =

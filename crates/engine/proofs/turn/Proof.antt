@@ -15,34 +15,51 @@ take-releases-requires c κs =
 
 step-requires : tie.Need-step-requires
 step-requires c κs =
+    let take-releases = c .before .before .before .before .before .before .before .take-releases in
     let q = c .before .before .before .before .before .before .before .before .before .before .before .before .before .before .pre in
-    needed _ (legal _ (q .0)) _ (q .1 .1 .1 .0) _ (c .before .before .before .before .before .before .before .take-releases .ensures .2) _ (q .1 .0)
+    needed _ (legal _ (q .0)) _ (q .1 .1 .1 .0) _ (take-releases .ensures .2) _ (q .1 .0)
 
 note-slot-requires : tie.Need-note-slot-requires
 note-slot-requires c κs =
-    let q = c .before .before .before .before .before .before .before .before .before .before .before .before .before .before .before .before .before .before .before .before .before .pre in
+    let step = c .before .before .before .before .before .before .step in
+    let if1 = c .before .before .before .before .before .if1 in
+    let q =
+    c .before .before .before .before .before .before .before .before .before .before .before .before .before .before .before .before
+    .before .before .before .before .before .pre in
     let g = legal _ (q .0) in
-    let a = c .before .before .before .before .before .before .before .before .before .before .before .before .before .before .take-releases .ensures in
-    let h = handed _ g _ (q .1 .1 .1 .0) _ (a .2) _ (q .1 .1 .0 .at-run) _ _ _ _ _ _ _ (c .before .before .before .before .before .before .step .ensures) _ _ (a .1) in
-    (roomy _ g _ _ (q .1 .1 .1 .1 (c .before .before .before .before .before .if1 .taken)) _ (a .0) _ _ _ _ h, omega (arith, q .1 .1 .1 .0, g .end-small))
+    let a =
+    c .before .before .before .before .before .before .before .before .before .before .before .before .before .before .take-releases
+    .ensures in
+    let h = handed _ g _ (q .1 .1 .1 .0) _ (a .2) _ (q .1 .1 .0 .at-run) _ _ _ _ _ _ _ (step .ensures) _ _ (a .1) in
+    (roomy _ g _ _ (q .1 .1 .1 .1 (if1 .taken)) _ (a .0) _ _ _ _ h, omega (arith, q .1 .1 .1 .0, g .end-small))
 
 same-length : tie.Need-same-length
 same-length c = search needs
 
 returns : tie.Need-returns
 returns c =
-    let q = c .before .before .before .before .before .before .before .before .before .before .before .before .before .before .before .before .before .before .before .before .before .before .before .before .pre in
+    let q =
+    c .before .before .before .before .before .before .before .before .before .before .before .before .before .before .before .before
+    .before .before .before .before .before .before .before .before .pre in
     let g = legal _ (q .0) in
-    let a = c .before .before .before .before .before .before .before .before .before .before .before .before .before .before .before .before .before .take-releases .ensures in
+    let a =
+    c .before .before .before .before .before .before .before .before .before .before .before .before .before .before .before .before
+    .before .take-releases .ensures in
     let s = c .before .before .before .before .before .before .before .before .before .step .ensures in
-    let h = handed _ g _ (q .1 .1 .1 .0) _ (a .2) _ (q .1 .1 .0 .at-run) _ _ _ _ _ _ _ s _ _ (a .1) in
-    (turned _ g _ (q .1 .1 .1 .0) _ (a .2) _ (q .1 .1 .0 .at-run) _ _ _ _ _ _ _ s _ _ (a .0) (a .1), λ z. room-next _ g _ _ (q .1 .1 .1 .1 z) _ (a .0) _ _ _ _ h _ (c .before .before .note-slot .ensures))
+    let h = handed _ g _ (q .1 .1 .1 .0) _ (a .2) _ (q .1 .1 .0 .at-run) _ _ _ _ _ _ _ s _ _ (a .1) in (
+      turned _ g _ (q .1 .1 .1 .0) _ (a .2) _ (q .1 .1 .0 .at-run) _ _ _ _ _ _ _ s _ _ (a .0) (a .1),
+      λ z. room-next _ g _ _ (q .1 .1 .1 .1 z) _ (a .0) _ _ _ _ h _ (c .before .before .note-slot .ensures),
+    )
 
 returns-2 : tie.Need-returns-2
 returns-2 c =
-    let q = c .before .before .before .before .before .before .before .before .before .before .before .before .before .before .before .before .pre in
-    let a = c .before .before .before .before .before .before .before .before .before .take-releases .ensures in (
-      turned _ (legal _ (q .0)) _ (q .1 .1 .1 .0) _ (a .2) _ (q .1 .1 .0 .at-run) _ _ _ _ _ _ _ (c .before .step .ensures) _ _ (a .0) (a .1),
+    let take-releases = c .before .before .before .before .before .before .before .before .before .take-releases in
+    let q =
+    c .before .before .before .before .before .before .before .before .before .before .before .before .before .before .before .before
+    .pre in
+    let a = take-releases .ensures in (
+      turned _ (legal _ (q .0)) _ (q .1 .1 .1 .0) _ (a .2) _ (q .1 .1 .0 .at-run) _ _ _ _ _ _ _ (c .before .step .ensures) _ _ (a .0)
+          (a .1),
       λ z. absurd (true≢false (sym z ∙ c .if1 .left)),
     )
 

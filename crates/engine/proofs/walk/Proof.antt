@@ -43,12 +43,13 @@ loop-less c = search needs
 loop-again : tie.Need-loop-again Inv-loop μ-loop
 unfolding tab
 loop-again c =
+    let start = c .before .before .before .before .before .before .before in
     let v = c .before .before .before .loop .inv in
     let l = c .before .before .loop-test .taken in
     ⊎-elim
     (λ w.
     rw (w .1, w .2, w .3, w .4, w .5, w .6)
-    (going-on _ _ _ _ _ _ _ _ _ _ _ v l (legal _ (c .before .before .before .before .before .before .before .pre .0)) (c .before .rests .ensures (w .0 .taken))))
+    (going-on _ _ _ _ _ _ _ _ _ _ _ v l (legal _ (start .pre .0)) (c .before .rests .ensures (w .0 .taken))))
     (λ w.
     rw (w .10, w .11, w .12, w .13, w .14, w .15)
     (going-more _ _ _ _ _ _ _ _ _ _ _ v l _ _ _ _ _ _ (w .7 .ensures .0) (w .8 .given) (w .7 .ensures .1))) (c .if1 .came)

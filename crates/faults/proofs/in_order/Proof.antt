@@ -28,8 +28,16 @@ later-than-requires c κs = search needs
 
 returns-2 : tie.Need-returns-2
 returns-2 c =
-    rw (c .before .before .before .before .time-of .ensures, c .before .before .before .name-of .ensures, c .before .before .time-of2 .ensures, c .before .name-of2 .ensures) at (c .later-than .ensures) ∙
-    order-next _ _ (c .before .before .before .before .before .if1 .left)
+    let time-of = c .before .before .before .before .time-of in
+    let name-of = c .before .before .before .name-of in
+    let if1 = c .before .before .before .before .before .if1 in
+    rw (
+      time-of .ensures,
+      name-of .ensures,
+      c .before .before .time-of2 .ensures,
+      c .before .name-of2 .ensures,
+    ) at (c .later-than .ensures) ∙
+    order-next _ _ (if1 .left)
 
 pub in-order-spec : {M : Type 1} → statement M
 in-order-spec =

@@ -18,7 +18,9 @@ refuse-unless-requires c κs = search needs
 
 returns : tie.Need-returns
 unfolding tableFault
-returns c = rw (c .before .both2 .ensures, c .before .before .both .ensures, c .before .before .before .task-count .ensures) at (c .refuse-unless .ensures)
+returns c =
+    let task-count = c .before .before .before .task-count in
+    rw (c .before .both2 .ensures, c .before .before .both .ensures, task-count .ensures) at (c .refuse-unless .ensures)
 
 pub table-fault-spec : {M : Type 1} → statement M
 table-fault-spec =

@@ -29,8 +29,16 @@ refuse-unless-requires c κs = search needs
 returns : tie.Need-returns
 unfolding taskFault
 returns c =
-    rw (← (add-one (c .before .before .before .before .before .before .args .i)))
-    (rw (c .before .task-stands .ensures, c .before .before .deadline-of .ensures, c .before .before .before .execution-of .ensures, c .before .before .before .before .period-of .ensures) at (c .refuse-unless .ensures))
+    let start = c .before .before .before .before .before .before in
+    let execution-of = c .before .before .before .execution-of in
+    let period-of = c .before .before .before .before .period-of in
+    rw (← (add-one (start .args .i)))
+    (rw (
+      c .before .task-stands .ensures,
+      c .before .before .deadline-of .ensures,
+      execution-of .ensures,
+      period-of .ensures,
+    ) at (c .refuse-unless .ensures))
 
 pub task-fault-spec : {M : Type 1} → statement M
 task-fault-spec =

@@ -18,7 +18,8 @@ is-demoted-under-requires c κs = search needs
 
 returns-3 : tie.Need-returns-3
 returns-3 c =
-    rw (c .before .before .before .if1 .left, sym (c .before .before .is-missed .ensures) ∙ c .before .if2 .left) (c .is-demoted-under .ensures)
+    let if1 = c .before .before .before .if1 in
+    rw (if1 .left, sym (c .before .before .is-missed .ensures) ∙ c .before .if2 .left) (c .is-demoted-under .ensures)
 
 pub is-changed-spec : {M : Type 1} → statement M
 is-changed-spec = tie.close (tie.spec returns is-missed-requires returns-2 is-demoted-under-requires returns-3)

@@ -19,9 +19,12 @@ demotes-requires c κs = search needs
 
 returns : tie.Need-returns
 returns c =
+    let start = c .before .before .before .before .before in
+    let is-normal = c .before .before .before .before .is-normal in
+    let if1 = c .before .before .before .if1 in
     rw (
-      demoted-now-as (c .before .before .before .before .before .args .j),
-      sym (c .before .before .before .before .is-normal .ensures) ∙ c .before .before .before .if1 .taken,
+      demoted-now-as (start .args .j),
+      sym (is-normal .ensures) ∙ if1 .taken,
       sym (c .before .before .free-of .ensures),
       sym (c .before .left-of .ensures),
     ) (c .demotes .ensures)

@@ -1,6 +1,7 @@
 -- `kinds::may_follow` meets its contract.
 use native.Mathlib.Omega.{arith}
-use Rattle.kinds.proofs.Order.{follows-procs, follows-policy, follows-task, not-task, follows-end, follows-release, not-release, not-other}
+use Rattle.kinds.proofs.Order.{follows-procs, follows-policy, follows-task, not-task, follows-end, follows-release, not-release}
+use Rattle.kinds.proofs.Order.{not-other}
 use Rattle.kinds.proofs.may_follow.Statement.{statement}
 use Rattle.kinds.proofs.may_follow.Tie as tie
 

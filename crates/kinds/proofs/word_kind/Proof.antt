@@ -33,10 +33,12 @@ past-first c = rw (sym (c .before .same-bytes .ensures) ∙ c .if1 .left)
 past-second : (c : tie.Else2) → wordKind (word (c .before .before .before)) ≡ third (word (c .before .before .before))
 past-second c = past-first (c .before .before .before) ∙ rw (sym (c .before .same-bytes2 .ensures) ∙ c .if2 .left)
 
-past-third : (c : tie.Else3) → wordKind (word (c .before .before .before .before .before .before)) ≡ fourth (word (c .before .before .before .before .before .before))
+past-third : (c : tie.Else3) → wordKind (word (c .before .before .before .before .before .before))
+    ≡ fourth (word (c .before .before .before .before .before .before))
 past-third c = past-second (c .before .before .before) ∙ rw (sym (c .before .same-bytes3 .ensures) ∙ c .if3 .left)
 
-past-fourth : (c : tie.Else4) → wordKind (word (c .before .before .before .before .before .before .before .before .before)) ≡ fifth (word (c .before .before .before .before .before .before .before .before .before))
+past-fourth : (c : tie.Else4) → wordKind (word (c .before .before .before .before .before .before .before .before .before))
+    ≡ fifth (word (c .before .before .before .before .before .before .before .before .before))
 past-fourth c = past-third (c .before .before .before) ∙ rw (sym (c .before .same-bytes4 .ensures) ∙ c .if4 .left)
 
 -- ---- the tests, and what is returned where one holds

@@ -43,7 +43,11 @@ loop-again c =
     let e = c .before .is-event .ensures in
     let a = c .before .before .before .before .before .before .before .args in
     ⊎-elim (λ w. rw (w .1) (omega arith, λ z. absurd (true≢false z)))
-    (λ w. rw (w .1) (omega arith, λ z. uneventful-more (a .finished .now) (a .demoted .now) (a .missed .now) _ (v .1 z) (sym e ∙ w .0 .left))) (c .if1 .came)
+    (λ w. rw (w .1) (
+      omega arith,
+      λ z. uneventful-more (a .finished .now) (a .demoted .now) (a .missed .now) _ (v .1 z)
+          (sym e ∙ w .0 .left),
+    )) (c .if1 .came)
 
 returns : tie.Need-returns Inv-loop μ-loop
 returns c =

@@ -42,10 +42,20 @@ loop-less c = search needs
 
 loop-again : tie.Need-loop-again Inv-loop μ-loop
 loop-again c =
+    let start = c .before .before .before .before in
     let l = c .before .before .before .loop in
     let v = l .inv in
-    ⊎-elim (λ w. rw (w .1) (omega arith, omega (arith, v .1), tally-yes (λ k. eqb (getD (c .before .before .before .before .args .out .now) (k * 3) 0) (c .before .before .before .before .args .v)) (l .s) (l .j) (v .2) (eq-eqb _ _ (w .0 .taken))))
-    (λ w. rw (w .1) (omega arith, omega (arith, v .1), tally-no (λ k. eqb (getD (c .before .before .before .before .args .out .now) (k * 3) 0) (c .before .before .before .before .args .v)) (l .s) (l .j) (v .2) (ne-eqb _ _ (w .0 .left)))) (c .if1 .came)
+    ⊎-elim (λ w. rw (w .1) (
+      omega arith,
+      omega (arith, v .1),
+      tally-yes (λ k. eqb (getD (start .args .out .now) (k * 3) 0) (start .args .v)) (l .s) (l .j) (v .2) (eq-eqb _ _ (w .0 .taken)),
+    ))
+    (λ w. rw (w .1) (
+      omega arith,
+      omega (arith, v .1),
+      tally-no (λ k. eqb (getD (start .args .out .now) (k * 3) 0) (start .args .v)) (l .s)
+          (l .j) (v .2) (ne-eqb _ _ (w .0 .left)),
+    )) (c .if1 .came)
 
 returns : tie.Need-returns Inv-loop μ-loop
 returns c =

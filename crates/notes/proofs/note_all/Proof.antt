@@ -11,7 +11,8 @@ use Rattle.notes.proofs.note_all.Statement.{statement}
 use Rattle.notes.proofs.note_all.Tie as tie
 
 abbrev Inv-loop : tie.InvT-loop
-Inv-loop out₀ place finished demoted missed clock i₀ out i = (i ≤ 32) × (length out ≡ length out₀) × (out ≡ noteTo clock place finished demoted missed i out₀)
+Inv-loop out₀ place finished demoted missed clock i₀ out i =
+    (i ≤ 32) × (length out ≡ length out₀) × (out ≡ noteTo clock place finished demoted missed i out₀)
 
 abbrev μ-loop : tie.MeasureT-loop
 μ-loop out₀ place finished demoted missed clock i₀ out i = 32 - i
@@ -40,9 +41,12 @@ element-copy-out-p c = search needs
 
 note-task-requires : tie.Need-note-task-requires Inv-loop μ-loop
 note-task-requires c κs =
+    let is-event = c .before .before .before .is-event in
+    let looped = c .before .before .before .before .before .before .before .before .loop in
+    let loop-test = c .before .before .before .before .before .before .before .loop-test in
     let q = c .before .before .before .before .before .before .before .before .before .before .pre in
-    let e = sym (c .before .before .before .is-event .ensures) ∙ c .before .before .if1 .taken in
-    (omega (arith, q .0 (c .before .before .before .before .before .before .before .before .loop .i) (c .before .before .before .before .before .before .before .loop-test .taken) e, c .before .before .before .before .before .before .before .before .loop .inv .1), q .1)
+    let e = sym (is-event .ensures) ∙ c .before .before .if1 .taken in
+    (omega (arith, q .0 (looped .i) (loop-test .taken) e, looped .inv .1), q .1)
 
 add-i : tie.Need-add-i Inv-loop μ-loop
 add-i c = search needs
@@ -55,7 +59,11 @@ loop-again c =
     let v = c .before .before .before .before .before .before .loop .inv in
     let e = c .before .is-event .ensures in
     ⊎-elim
-    (λ w. rw (w .6) (omega arith, ap length (w .3 .ensures) ∙ put3-long _ _ _ ∙ v .1, note-yes _ _ _ _ _ _ _ _ _ (v .2) _ e (w .0 .taken) (w .3 .ensures)))
+    (λ w. rw (w .6) (
+      omega arith,
+      ap length (w .3 .ensures) ∙ put3-long _ _ _ ∙ v .1,
+      note-yes _ _ _ _ _ _ _ _ _ (v .2) _ e (w .0 .taken) (w .3 .ensures),
+    ))
     (λ w. rw (w .1) (omega arith, v .1, note-no _ _ _ _ _ _ _ _ _ (v .2) _ e (w .0 .left) refl)) (c .if1 .came)
 
 same-length : tie.Need-same-length Inv-loop μ-loop

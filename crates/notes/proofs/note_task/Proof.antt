@@ -64,7 +64,9 @@ same-length : tie.Need-same-length
 same-length c = search needs
 
 returns : tie.Need-returns
-returns c = stores _ _ _ _ _ _ (c .before .before .before .verdict-after .ensures) (c .before .before .time-after .ensures) (c .time-after2 .ensures)
+returns c =
+    let verdict-after = c .before .before .before .verdict-after in
+    stores _ _ _ _ _ _ (verdict-after .ensures) (c .before .before .time-after .ensures) (c .time-after2 .ensures)
 
 pub note-task-spec : {M : Type 1} → statement M
 note-task-spec =

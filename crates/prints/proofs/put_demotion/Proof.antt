@@ -17,7 +17,8 @@ returns-2 : tie.Need-returns-2
 returns-2 c =
     let start = c .before .before .before .before .before .before .before in
     let some = c .before .before .before .before .before .if1 .left in
-    rw (demotion-some (start .args .demotion) some, ← numbers-one spaceByte (start .args .demotion - 1)) (c .before .before .put-numbers .ensures)
+    rw (demotion-some (start .args .demotion) some, ← numbers-one spaceByte (start .args .demotion - 1))
+    (c .before .before .put-numbers .ensures)
 
 slice-aggregate-put-bytes : tie.Need-slice-aggregate-put-bytes
 slice-aggregate-put-bytes c = search needs

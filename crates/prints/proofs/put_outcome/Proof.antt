@@ -29,7 +29,13 @@ put-demotion-requires : tie.Need-put-demotion-requires
 put-demotion-requires c κs =
     let put = c .before .before .before .put-finish in
     let start = c .before .before .before .before .before .before .before .before .before .before in
-    omega (arith, judged (c .before .before .before .before .before .before .before), put .ensures .behind, put .kept .0, finish-room (start .args .finish))
+    omega (
+      arith,
+      judged (c .before .before .before .before .before .before .before),
+      put .ensures .behind,
+      put .kept .0,
+      finish-room (start .args .finish),
+    )
 
 same-length : tie.Need-same-length
 same-length c = search needs

@@ -49,7 +49,13 @@ numbered : (c : tie.After-put-numbers) → (c .put-numbers .result ≤ 47) × (l
 numbered c =
     let a = c .before .before .before .before .before .before .before .before .before .before .before .before .args in
     let put = c .put-numbers in
-    omega (arith, named (c .before .before .before .before .before), numbers-room spaceByte (a .procs ∷ a .tasks ∷ a .end ∷ []), put .ensures .behind, put .kept .0)
+    omega (
+      arith,
+      named (c .before .before .before .before .before),
+      numbers-room spaceByte (a .procs ∷ a .tasks ∷ a .end ∷ []),
+      put .ensures .behind,
+      put .kept .0,
+    )
 
 slice-write-out : tie.Need-slice-write-out
 slice-write-out c = omega (arith, numbered (c .before .before))

@@ -15,12 +15,14 @@ use Rattle.prints.proofs.put_running.Tie as tie
 
 -- the numbers of the line, and that it is not too long
 numbers : (c : tie.After-put-members)
-    → take (c .put-members .result - 0) (c .put-members .last .0) ≡ c .before .before .before .args .slot ∷ membersOf (c .before .before .before .args .set) maxTasks
+    → take (c .put-members .result - 0) (c .put-members .last .0)
+    ≡ c .before .before .before .args .slot ∷ membersOf (c .before .before .before .args .set) maxTasks
 numbers c = slot-first _ _ _ _ _ (members-few (c .before .before .before .args .set) maxTasks) (c .put-members .ensures)
 
 short : (c : tie.Start) → length (numberLine spaceByte 10 (c .args .slot ∷ membersOf (c .args .set) maxTasks)) ≤ lineRoom
 unfolding wordOf
-short c = line-short 10 (c .args .slot ∷ membersOf (c .args .set) maxTasks) (omega arith) (omega (arith, members-few (c .args .set) maxTasks))
+short c = line-short 10 (c .args .slot ∷ membersOf (c .args .set) maxTasks) (omega arith)
+    (omega (arith, members-few (c .args .set) maxTasks))
 
 slice-aggregate-put-members : tie.Need-slice-aggregate-put-members
 slice-aggregate-put-members c = refl

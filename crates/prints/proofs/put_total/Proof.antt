@@ -11,7 +11,8 @@ use Rattle.prints.proofs.Lines.{line-short}
 use Rattle.prints.proofs.put_total.Statement.{statement}
 use Rattle.prints.proofs.put_total.Tie as tie
 
-short : (c : tie.Start) → length (numberLine spaceByte 7 (c .args .releases ∷ c .args .met ∷ c .args .missed ∷ c .args .still-open ∷ [])) ≤ lineRoom
+short : (c : tie.Start) → length (numberLine spaceByte 7 (c .args .releases ∷ c .args .met ∷ c .args .missed ∷ c .args .still-open ∷ []))
+    ≤ lineRoom
 unfolding wordOf
 short c = line-short 7 (c .args .releases ∷ c .args .met ∷ c .args .missed ∷ c .args .still-open ∷ []) (omega arith) (omega arith)
 

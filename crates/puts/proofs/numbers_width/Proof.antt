@@ -33,10 +33,16 @@ width-requires : tie.Need-width-requires Inv-loop μ-loop
 width-requires c κs = search needs
 
 add-sum : tie.Need-add-sum Inv-loop μ-loop
-add-sum c = omega (arith, at-most-ten (getD (c .before .before .before .before .before .args .vs .now) (c .before .before .before .loop .i) 0))
+add-sum c =
+    let start = c .before .before .before .before .before in
+    let looped = c .before .before .before .loop in
+    omega (arith, at-most-ten (getD (start .args .vs .now) (looped .i) 0))
 
 add-sum-2 : tie.Need-add-sum-2 Inv-loop μ-loop
-add-sum-2 c = omega (arith, at-most-ten (getD (c .before .before .before .before .before .args .vs .now) (c .before .before .before .loop .i) 0))
+add-sum-2 c =
+    let start = c .before .before .before .before .before in
+    let looped = c .before .before .before .loop in
+    omega (arith, at-most-ten (getD (start .args .vs .now) (looped .i) 0))
 
 add-i : tie.Need-add-i Inv-loop μ-loop
 add-i c = omega arith

@@ -11,21 +11,31 @@ use Rattle.puts.proofs.put_line.Statement.{statement}
 use Rattle.puts.proofs.put_line.Tie as tie
 
 -- the word, the fields and the newline have room
-parts : (c : tie.Start) → length (wordOf (c .args .word)) + length (numberFields (c .args .between) (c .args .vs .now)) + 1 ≤ length (c .args .out .now)
+parts : (c : tie.Start) → length (wordOf (c .args .word)) + length (numberFields (c .args .between) (c .args .vs .now)) + 1
+    ≤ length (c .args .out .now)
 parts c = omega (arith, line-length (c .args .between) (wordOf (c .args .word)) (map digitsOf (c .args .vs .now)))
 
 put-word-requires : tie.Need-put-word-requires
 put-word-requires c κs = omega (arith, parts (c .before .before .before))
 
 put-numbers-requires : tie.Need-put-numbers-requires
-put-numbers-requires c κs = omega (arith, parts (c .before .before .before .before .before .before .before), c .before .before .before .put-word .kept .0, c .before .before .before .put-word .ensures .behind)
+put-numbers-requires c κs =
+    let put-word = c .before .before .before .put-word in
+    omega (arith, parts (c .before .before .before .before .before .before .before), put-word .kept .0, put-word .ensures .behind)
 
 -- the newline has room
 last : (c : tie.After-slice-known3) → c .before .before .put-numbers .result < length (c .before .before .put-numbers .last .0)
 last c =
     let words = c .before .before .before .before .before .before .put-word in
     let numbers = c .before .before .put-numbers in
-    omega (arith, parts (c .before .before .before .before .before .before .before .before .before .before), words .kept .0, words .ensures .behind, numbers .kept .0, numbers .ensures .behind)
+    omega (
+      arith,
+      parts (c .before .before .before .before .before .before .before .before .before .before),
+      words .kept .0,
+      words .ensures .behind,
+      numbers .kept .0,
+      numbers .ensures .behind,
+    )
 
 slice-write-out : tie.Need-slice-write-out
 slice-write-out c = last c
@@ -35,9 +45,10 @@ add-result c = omega (arith, last c)
 
 returns : tie.Need-returns
 returns c =
+    let put-word = c .before .before .before .before .before .before .put-word in
     let a = c .before .before .before .before .before .before .before .before .before .before .args in
     rw (← line-end (a .between) (wordOf (a .word)) (map digitsOf (a .vs .now)))
-    (laid-then (c .before .before .before .before .before .before .put-word .ensures) (laid-then (c .before .before .put-numbers .ensures) (laid-byte _ 10 _)))
+    (laid-then (put-word .ensures) (laid-then (c .before .before .put-numbers .ensures) (laid-byte _ 10 _)))
 
 same-length : tie.Need-same-length
 same-length c = laid-length (returns c)

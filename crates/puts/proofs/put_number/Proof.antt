@@ -14,7 +14,8 @@ use Rattle.puts.proofs.put_number.Tie as tie
 
 abbrev Inv-loop : tie.InvT-loop
 Inv-loop out₀ at v end i₀ w₀ out i w =
-    (w ≤ v) × (i ≡ at + length (digitsOf w)) × (i ≤ length out) × (length out ≡ length out₀) × (sets out at (digitsOf w) ≡ sets out₀ at (digitsOf v))
+    (w ≤ v) × (i ≡ at + length (digitsOf w)) × (i ≤ length out) × (length out ≡ length out₀)
+    × (sets out at (digitsOf w) ≡ sets out₀ at (digitsOf v))
 
 abbrev μ-loop : tie.MeasureT-loop
 μ-loop out₀ at v end i₀ w₀ out i w = w
@@ -49,7 +50,8 @@ loop-again c =
       omega arith,
       simp length-set (omega arith),
       simp length-set (omega arith),
-      store-digit (l .out) (at .before .before .before .args .at) (l .w) (l .i) _ (omega arith) (omega arith) (l .inv .1) (c .digit .ensures) ∙ l .inv .4,
+      store-digit (l .out) (at .before .before .before .args .at) (l .w) (l .i) _ (omega arith) (omega arith) (l .inv .1)
+          (c .digit .ensures) ∙ l .inv .4,
     )
 
 digit-requires-2 : tie.Need-digit-requires-2 Inv-loop μ-loop

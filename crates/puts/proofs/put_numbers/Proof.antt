@@ -21,7 +21,9 @@ abbrev μ-loop : tie.MeasureT-loop
 μ-loop out₀ at between vs end₀ i₀ out end i = length vs - i
 
 -- the number at hand has room
-fits : (c : tie.In-loop Inv-loop μ-loop) → c .before .loop .end + 1 + length (digitsOf (getD (c .before .before .before .before .args .vs .now) (c .before .loop .i) 0)) ≤ length (c .before .loop .out)
+fits : (c : tie.In-loop Inv-loop μ-loop)
+    → c .before .loop .end + 1 + length (digitsOf (getD (c .before .before .before .before .args .vs .now) (c .before .loop .i) 0))
+    ≤ length (c .before .loop .out)
 fits c =
     let l = c .before .loop in
     let a = c .before .before .before .before .args in

@@ -19,7 +19,9 @@ same-length-2 c = search needs
 
 returns : tie.Need-returns
 unfolding caseValues
-returns c = record { answer = refl; left-tasks = c .before .before .before .before .before .before .put-numbers .ensures; left-releases = c .before .before .put-numbers2 .ensures }
+returns c =
+    let put-numbers = c .before .before .before .before .before .before .put-numbers in
+    record { answer = refl; left-tasks = put-numbers .ensures; left-releases = c .before .before .put-numbers2 .ensures }
 
 pub put-case-spec : {M : Type 1} → statement M
 put-case-spec =

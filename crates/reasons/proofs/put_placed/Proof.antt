@@ -11,17 +11,32 @@ put-bytes-requires c κs = search needs
 
 put-number-requires : tie.Need-put-number-requires
 put-number-requires c κs =
-    omega (arith, at-most-ten (c .before .before .before .before .before .before .before .before .args .place), laid-length (c .before .before .before .put-bytes .ensures), c .before .before .before .put-bytes .ensures .behind)
+    let start = c .before .before .before .before .before .before .before .before in
+    let put-bytes = c .before .before .before .put-bytes in
+    omega (arith, at-most-ten (start .args .place), laid-length (put-bytes .ensures), put-bytes .ensures .behind)
 
 put-bytes-requires-2 : tie.Need-put-bytes-requires-2
 put-bytes-requires-2 c κs =
-    omega (arith, at-most-ten (c .before .before .before .before .before .before .before .before .before .before .before .before .args .place), laid-length (c .before .before .before .put-number .ensures), laid-length (c .before .before .before .before .before .before .before .put-bytes .ensures), c .before .before .before .put-number .ensures .behind, c .before .before .before .before .before .before .before .put-bytes .ensures .behind)
+    let start = c .before .before .before .before .before .before .before .before .before .before .before .before in
+    let put-number = c .before .before .before .put-number in
+    let put-bytes = c .before .before .before .before .before .before .before .put-bytes in
+    omega (
+      arith,
+      at-most-ten (start .args .place),
+      laid-length (put-number .ensures),
+      laid-length (put-bytes .ensures),
+      put-number .ensures .behind,
+      put-bytes .ensures .behind,
+    )
 
 same-length : tie.Need-same-length
 same-length c = search needs
 
 returns : tie.Need-returns
-returns c = laid-then (c .before .before .before .before .before .before .before .before .before .before .put-bytes .ensures) (laid-then (c .before .before .before .before .before .before .put-number .ensures) (c .before .before .put-bytes2 .ensures))
+returns c =
+    let put-bytes = c .before .before .before .before .before .before .before .before .before .before .put-bytes in
+    let put-number = c .before .before .before .before .before .before .put-number in
+    laid-then (put-bytes .ensures) (laid-then (put-number .ensures) (c .before .before .put-bytes2 .ensures))
 
 pub put-placed-spec : {M : Type 1} → statement M
 put-placed-spec =

@@ -19,7 +19,15 @@ put-placed-requires c κs = search needs
 
 put-number-requires : tie.Need-put-number-requires
 put-number-requires c κs =
-    omega (arith, at-most-ten (c .before .before .before .before .before .before .before .before .args .place), at-most-ten (c .before .before .before .before .before .before .before .before .args .number), laid-length (c .before .before .before .put-placed .ensures), simp length-append at (c .before .before .before .put-placed .ensures .behind))
+    let start = c .before .before .before .before .before .before .before .before in
+    let put-placed = c .before .before .before .put-placed in
+    omega (
+      arith,
+      at-most-ten (start .args .place),
+      at-most-ten (start .args .number),
+      laid-length (put-placed .ensures),
+      simp length-append at (put-placed .ensures .behind),
+    )
 
 same-length : tie.Need-same-length
 same-length c = search needs

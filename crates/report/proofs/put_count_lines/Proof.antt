@@ -63,9 +63,10 @@ loop-less c = omega arith
 
 loop-again : tie.Need-loop-again Inv-loop μ-loop
 loop-again c =
+    let loop-test = c .before .before .before .before .before .loop-test in
     let l = c .before .before .before .before .before .before .loop in
     let h : l .end ≤ length (l .out) = omega (arith, room (c .before .before .before .before .before)) in
-    (omega (arith, c .before .before .before .before .before .loop-test .taken), listed-more _ _ _ _ _ _ _ _ _ (l .inv .1) h (c .before .before .put-count .ensures))
+    (omega (arith, loop-test .taken), listed-more _ _ _ _ _ _ _ _ _ (l .inv .1) h (c .before .before .put-count .ensures))
 
 same-length : tie.Need-same-length Inv-loop μ-loop
 same-length c = laid-length (c .before .loop .inv .1 .laid)

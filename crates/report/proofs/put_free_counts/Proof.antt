@@ -38,15 +38,22 @@ same-length : tie.Need-same-length
 same-length c = search needs
 
 returns : tie.Need-returns
-returns c = absurd (counts-accepts _ _ _ (c .before .before .before .before .before .before .before .before .before .before .before .before .pre .1) _ (c .before .before .before .before .before .before .before .before .counts .ensures .answer) _ _ (c .before .before .before .before .before .counted .given .1))
+returns c =
+    let start = c .before .before .before .before .before .before .before .before .before .before .before .before in
+    let counts = c .before .before .before .before .before .before .before .before .counts in
+    let counted = c .before .before .before .before .before .counted in
+    absurd (counts-accepts _ _ _ (start .pre .1) _ (counts .ensures .answer) _ _ (counted .given .1))
 
 same-length-2 : tie.Need-same-length-2
 same-length-2 c = search needs
 
 returns-2 : tie.Need-returns-2
 returns-2 c =
+    let counts = c .before .before .before .before .before .before .before .before .before .counts in
+    let counted2 = c .before .before .before .before .before .before .counted2 in
     let h = c .before .before .before .before .before .before .before .before .before .before .before .before .before .pre .1 in
-    counts-shown _ _ _ h _ (c .before .before .before .before .before .before .before .before .before .counts .ensures .left) _ (counts-number _ _ _ h _ (c .before .before .before .before .before .before .before .before .before .counts .ensures .answer) _ (c .before .before .before .before .before .before .counted2 .given .1)) (counts-clear _ _ maxTasks h .roomy) _ _ _ (c .before .before .put-count-lines .ensures)
+    counts-shown _ _ _ h _ (counts .ensures .left) _ (counts-number _ _ _ h _ (counts .ensures .answer) _ (counted2 .given .1))
+    (counts-clear _ _ maxTasks h .roomy) _ _ _ (c .before .before .put-count-lines .ensures)
 
 pub put-free-counts-spec : {M : Type 1} → statement M
 put-free-counts-spec =

@@ -11,7 +11,8 @@ use Rattle.report.proofs.put_jobs.Statement.{statement}
 use Rattle.report.proofs.put_jobs.Tie as tie
 
 abbrev Inv-loop : tie.InvT-loop
-Inv-loop out₀ at table trace records n end₀ j₀ out end j = (j ≤ length trace / 2) × Listed (jobText table trace records) jobRoom at j out₀ out end
+Inv-loop out₀ at table trace records n end₀ j₀ out end j = (j ≤ length trace / 2)
+    × Listed (jobText table trace records) jobRoom at j out₀ out end
 
 abbrev μ-loop : tie.MeasureT-loop
 μ-loop out₀ at table trace records n end₀ j₀ out end j = n - j
@@ -36,8 +37,9 @@ part-put-release-end c = omega (arith, room c)
 
 put-release-requires : tie.Need-put-release-requires Inv-loop μ-loop
 put-release-requires c κs =
+    let start = c .before .before .before .before .before .before .before in
     let l = c .before .before .loop in
-    (omega (arith, room (c .before), part-length (l .end) (l .out)), c .before .before .before .before .before .before .before .pre .1 (l .j) (c .before .loop-test .taken))
+    (omega (arith, room (c .before), part-length (l .end) (l .out)), start .pre .1 (l .j) (c .before .loop-test .taken))
 
 add-end : tie.Need-add-end Inv-loop μ-loop
 add-end c = omega (arith, room (c .before .before .before .before), c .before .before .put-release .ensures .short)
@@ -60,8 +62,9 @@ same-length c = laid-length (c .before .loop .inv .1 .laid)
 
 returns : tie.Need-returns Inv-loop μ-loop
 returns c =
+    let start = c .before .before .before .before .before .before in
     let l = c .before .loop in
-    let e : l .j ≡ length (c .before .before .before .before .before .before .args .trace .now) / 2 = omega (arith, l .inv .0, c .loop-test .left) in
+    let e : l .j ≡ length (start .args .trace .now) / 2 = omega (arith, l .inv .0, c .loop-test .left) in
     rw e at (l .inv .1)
 
 pub put-jobs-spec : {M : Type 1} → statement M

@@ -31,10 +31,14 @@ enum-known-replayed-2 : tie.Need-enum-known-replayed-2
 enum-known-replayed-2 c = search needs
 
 cast-tasks : tie.Need-cast-tasks
-cast-tasks c = omega (arith, legal _ (c .before .before .before .before .before .before .before .before .before .pre .1) .tasks-few)
+cast-tasks c =
+    let start = c .before .before .before .before .before .before .before .before .before in
+    omega (arith, legal _ (start .pre .1) .tasks-few)
 
 cast-releases : tie.Need-cast-releases
-cast-releases c = omega (arith, legal _ (c .before .before .before .before .before .before .before .before .before .pre .1) .releases-few)
+cast-releases c =
+    let start = c .before .before .before .before .before .before .before .before .before in
+    omega (arith, legal _ (start .pre .1) .releases-few)
 
 put-run-requires : tie.Need-put-run-requires
 put-run-requires c κs = search needs
@@ -44,17 +48,29 @@ slice-aggregate-put-jobs c = search needs
 
 put-jobs-requires : tie.Need-put-jobs-requires
 put-jobs-requires c κs =
-    let ok = c .before .before .before .before .before .before .before .before .before .before .before .before .before .before .before .pre .1 in
+    let start = c .before .before .before .before .before .before .before .before .before .before .before .before .before .before .before in
+    let replay = c .before .before .before .before .before .before .before .before .before .before .replay in
+    let ok = start .pre .1 in
     let run = c .before .before .before .before .put-run in
-    let fit = fits _ ok _ _ (c .before .before .before .before .before .before .before .before .before .before .replay .ensures .left) (replay-fits _ ok) in
-    (omega (arith, run .ensures .short, run .kept .0, legal _ ok .releases-few, c .before .before .before .before .before .before .before .before .before .before .before .before .before .before .before .pre .0), stands _ ok _ fit)
+    let fit = fits _ ok _ _ (replay .ensures .left) (replay-fits _ ok) in
+    (omega (arith, run .ensures .short, run .kept .0, legal _ ok .releases-few, start .pre .0), stands _ ok _ fit)
 
 -- the total line has room behind the job lines
-room : (c : tie.After-put-jobs) → (c .put-jobs .result + lineRoom ≤ length (c .put-jobs .last .0)) × (c .put-jobs .result ≤ lineRoom + maxReleases * jobRoom)
+room : (c : tie.After-put-jobs) → (c .put-jobs .result + lineRoom ≤ length (c .put-jobs .last .0))
+    × (c .put-jobs .result ≤ lineRoom + maxReleases * jobRoom)
 room c =
     let run = c .before .before .before .before .before .put-run in
-    let start = c .before .before .before .before .before .before .before .before .before .before .before .before .before .before .before .before in
-    omega (arith, c .put-jobs .ensures .short, c .put-jobs .kept .0, run .ensures .short, run .kept .0, legal _ (start .pre .1) .releases-few, start .pre .0)
+    let start =
+    c .before .before .before .before .before .before .before .before .before .before .before .before .before .before .before .before in
+    omega (
+      arith,
+      c .put-jobs .ensures .short,
+      c .put-jobs .kept .0,
+      run .ensures .short,
+      run .kept .0,
+      legal _ (start .pre .1) .releases-few,
+      start .pre .0,
+    )
 
 sub-put-total : tie.Need-sub-put-total
 sub-put-total c = omega (arith, room (c .before .before))
@@ -66,7 +82,9 @@ part-put-total-end : tie.Need-part-put-total-end
 part-put-total-end c = search needs
 
 put-total-requires : tie.Need-put-total-requires
-put-total-requires c κs = omega (arith, room (c .before .before .before), part-length (c .before .before .before .put-jobs .result) (c .before .before .before .put-jobs .last .0))
+put-total-requires c κs =
+    let put-jobs = c .before .before .before .put-jobs in
+    omega (arith, room (c .before .before .before), part-length (put-jobs .result) (put-jobs .last .0))
 
 add-result : tie.Need-add-result
 add-result c = omega (arith, room (c .before .before .before .before .before .before), c .before .before .put-total .ensures .short)
@@ -75,29 +93,39 @@ same-length : tie.Need-same-length
 same-length c = search needs
 
 returns : tie.Need-returns
-returns c = absurd (replay-accepts _ _ _ (replay-fits _ (c .before .before .before .before .before .before .before .before .before .before .before .before .before .pre .1)) (c .before .before .before .before .before .before .before .before .replay .ensures .answer) _ _ (c .before .before .before .before .before .replayed .given .1))
+returns c =
+    let start = c .before .before .before .before .before .before .before .before .before .before .before .before .before in
+    let replay = c .before .before .before .before .before .before .before .before .replay in
+    let replayed = c .before .before .before .before .before .replayed in
+    absurd (replay-accepts _ _ _ (replay-fits _ (start .pre .1)) (replay .ensures .answer) _ _ (replayed .given .1))
 
 same-length-2 : tie.Need-same-length-2
 same-length-2 c = search needs
 
 returns-2 : tie.Need-returns-2
 returns-2 c =
-    let start = c .before .before .before .before .before .before .before .before .before .before .before .before .before .before .before .before .before .before .before .before .before .before in
-    let replay = c .before .before .before .before .before .before .before .before .before .before .before .before .before .before .before .before .before .replay in
-    let judged = c .before .before .before .before .before .before .before .before .before .before .before .before .before .before .replayed2 .given .1 in
-    let run = c .before .before .before .before .before .before .before .before .before .before .before .put-run in
-    let jobs = c .before .before .before .before .before .before .put-jobs in
-    let total = c .before .before .put-total in
+    let at-total = c .before .before in
+    let at-jobs = at-total .before .before .before .before in
+    let at-run = at-jobs .before .before .before .before .before in
+    let at-judged = at-run .before .before .before in
+    let at-replay = at-judged .before .before .before in
+    let start = at-replay .before .before .before .before .before in
+    let total = at-total .put-total in
+    let jobs = at-jobs .put-jobs in
+    let run = at-run .put-run in
+    let judged = at-judged .replayed2 .given .1 in
+    let replay = at-replay .replay in
     let fit = replay-fits _ (start .pre .1) in
-    let h : jobs .result ≤ length (jobs .last .0) = omega (arith, room (c .before .before .before .before .before .before)) in
+    let h : jobs .result ≤ length (jobs .last .0) = omega (arith, room at-jobs) in
     record {
-      laid = report-laid _ _ _ _ _ (linesText (jobText (start .args .table .now) (start .args .trace .now) (replay .last .1 .1 .1 .1 .1 .0)) (releaseCount (start .args .trace .now))) _ _ _ _ _ _
+      laid = report-laid _ _ _ _ _ (linesText (jobText (start .args .table .now) (start .args .trace .now) (replay .last .1 .1 .1 .1 .1 .0))
+          (releaseCount (start .args .trace .now))) _ _ _ _ _ _
           (run .ensures .laid)
           (jobs .ensures .laid)
           (jobs-are _ (start .pre .1) _ _ (replay .ensures .left) fit)
           (laid-part _ _ _ _ _ h (total .ensures .laid))
           (replay-totals _ _ _ fit (replay .ensures .answer) _ _ _ judged);
-      short = omega (arith, room (c .before .before .before .before .before .before), total .ensures .short);
+      short = omega (arith, room at-jobs, total .ensures .short);
     }
 
 pub put-report-spec : {M : Type 1} → statement M

@@ -23,13 +23,21 @@ same-length : tie.Need-same-length
 same-length c = search needs
 
 returns : tie.Need-returns
-returns c = slot-no _ _ (c .before .before .before .before .before .before .before .before .before .before .before .pre .1) _ (c .before .before .before .before .before .before .before .running .ensures .answer) _ _ _ _ _ (c .before .before .before .before .before .ran .given .1) (c .before .before .put-refused .ensures)
+returns c =
+    let start = c .before .before .before .before .before .before .before .before .before .before .before in
+    let running = c .before .before .before .before .before .before .before .running in
+    let ran = c .before .before .before .before .before .ran in
+    slot-no _ _ (start .pre .1) _ (running .ensures .answer) _ _ _ _ _ (ran .given .1) (c .before .before .put-refused .ensures)
 
 same-length-2 : tie.Need-same-length-2
 same-length-2 c = search needs
 
 returns-2 : tie.Need-returns-2
-returns-2 c = slot-yes _ _ (c .before .before .before .before .before .before .before .before .before .before .before .pre .1) _ (c .before .before .before .before .before .before .before .running .ensures .answer) _ _ _ _ (c .before .before .before .before .before .ran2 .given .1) (c .before .before .put-running .ensures)
+returns-2 c =
+    let start = c .before .before .before .before .before .before .before .before .before .before .before in
+    let running = c .before .before .before .before .before .before .before .running in
+    let ran2 = c .before .before .before .before .before .ran2 in
+    slot-yes _ _ (start .pre .1) _ (running .ensures .answer) _ _ _ _ (ran2 .given .1) (c .before .before .put-running .ensures)
 
 pub put-slot-spec : {M : Type 1} → statement M
 put-slot-spec =

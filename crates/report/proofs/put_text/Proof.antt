@@ -20,13 +20,20 @@ same-length : tie.Need-same-length
 same-length c = search needs
 
 returns : tie.Need-returns
-returns c = absurd (write-accepts _ _ (c .before .before .before .before .before .before .before .before .before .before .before .before .before .before .pre .1) (c .before .before .before .before .before .before .before .before .before .before .before .before .before .before .pre .0) _ (c .before .before .before .before .before .before .before .before .before .write .ensures .answer) _ _ (c .before .before .before .before .before .written .given .1))
+returns c =
+    let start = c .before .before .before .before .before .before .before .before .before .before .before .before .before .before in
+    let write = c .before .before .before .before .before .before .before .before .before .write in
+    let written = c .before .before .before .before .before .written in
+    absurd (write-accepts _ _ (start .pre .1) (start .pre .0) _ (write .ensures .answer) _ _ (written .given .1))
 
 same-length-2 : tie.Need-same-length-2
 same-length-2 c = search needs
 
 returns-2 : tie.Need-returns-2
-returns-2 c = text-shown _ _ (c .before .before .before .before .before .before .before .before .before .before .pre .1) (c .before .before .before .before .before .before .before .before .before .before .pre .0) _ (c .before .before .before .before .before .write .ensures .answer) _ (c .before .written2 .given .1) _ (c .before .before .before .before .before .write .ensures .left)
+returns-2 c =
+    let start = c .before .before .before .before .before .before .before .before .before .before in
+    let write = c .before .before .before .before .before .write in
+    text-shown _ _ (start .pre .1) (start .pre .0) _ (write .ensures .answer) _ (c .before .written2 .given .1) _ (write .ensures .left)
 
 pub put-text-spec : {M : Type 1} → statement M
 put-text-spec =

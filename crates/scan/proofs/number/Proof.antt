@@ -7,7 +7,8 @@ use borrow.Author.Needs.{needs}
 use native.Mathlib.Omega.{arith}
 use lib.ListN.{length, drop}
 use Rattle.rules.specs.Text.{noLeadingZero, allDigits, worth}
-use Rattle.scan.proofs.Numbers.{bad-empty, bad-long, bad-front, bad-digit, good, front-short, front-good, front-zero, digits-low, digits-high, digits-on, worth-on, digits-done, worth-done, below-on, below-small}
+use Rattle.scan.proofs.Numbers.{bad-empty, bad-long, bad-front, bad-digit, good, front-short, front-good, front-zero, digits-low}
+use Rattle.scan.proofs.Numbers.{digits-high, digits-on, worth-on, digits-done, worth-done, below-on, below-small}
 use Rattle.scan.proofs.number.Statement.{statement}
 use Rattle.scan.proofs.number.Tie as tie
 
@@ -68,15 +69,17 @@ loop-less c = omega arith
 
 loop-again : tie.Need-loop-again Inv-loop μ-loop
 loop-again c =
+    let loop-test = c .before .before .before .before .loop-test in
     let at = c .before .before .before .before .before in
     let s = at .before .before .before .before .before .args .s .now in
     let i = at .loop .i in
-    let inside = c .before .before .before .before .loop-test .taken in (
+    let inside = loop-test .taken in (
       omega arith,
       below-on i (at .loop .v) _ (at .loop .inv .1) (omega arith),
       at .loop .inv .2,
       at .loop .inv .3 ∙ digits-on s i inside (omega arith) (omega arith),
-      at .loop .inv .4 ∙ worth-on s i (at .loop .v) inside ∙ ap (λ (k : ℕ). worth (at .loop .v * 10 + k) (drop (i + 1) s)) (sym (c .wide .ensures)),
+      at .loop .inv .4 ∙ worth-on s i (at .loop .v) inside ∙ ap (λ (k : ℕ). worth (at .loop .v * 10 + k) (drop (i + 1) s))
+          (sym (c .wide .ensures)),
     )
 
 returns-6 : tie.Need-returns-6 Inv-loop μ-loop
@@ -84,7 +87,8 @@ returns-6 c =
     let at = c .before in
     let s = at .before .before .before .before .before .args .s .now in
     let end : at .loop .i ≡ length s = omega arith in
-    good s (at .loop .v) (omega arith) (omega arith) (at .loop .inv .2) (at .loop .inv .3 ∙ digits-done s _ end) (at .loop .inv .4 ∙ worth-done s _ _ end)
+    good s (at .loop .v) (omega arith) (omega arith) (at .loop .inv .2) (at .loop .inv .3 ∙ digits-done s _ end)
+    (at .loop .inv .4 ∙ worth-done s _ _ end)
 
 pub number-spec : {M : Type 1} → statement M
 number-spec =

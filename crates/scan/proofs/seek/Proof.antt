@@ -62,8 +62,15 @@ loop-again c =
     let b = a .before .args .b in
     let i = a .loop .i in
     let e : i + 1 + 1 ≡ i + 2 = omega arith in
-    let n = ap (λ (k : ℕ). length (upTo b (drop k s))) e in
-    (omega arith, omega (arith, not-here s i b (omega arith) (c .before .before .if1 .left), not-here s (i + 1) b (omega arith) (c .if2 .left), n))
+    let n = ap (λ (k : ℕ). length (upTo b (drop k s))) e in (
+      omega arith,
+      omega (
+        arith,
+        not-here s i b (omega arith) (c .before .before .if1 .left),
+        not-here s (i + 1) b (omega arith) (c .if2 .left),
+        n,
+      ),
+    )
 
 shared-slice-read-if4 : tie.Need-shared-slice-read-if4 Inv-loop μ-loop
 shared-slice-read-if4 c = search needs

@@ -48,4 +48,5 @@ returns-2 c =
 
 pub thrumcomb-read-spec : {M : Type 1} → statement M
 thrumcomb-read-spec =
-    tie.close (tie.spec read-requires enum-known-answer enum-known-answer-2 cast-t19 cast-t20 cast-t21 same-length same-length-2 returns same-length-3 same-length-4 returns-2)
+    tie.close (tie.spec read-requires enum-known-answer enum-known-answer-2 cast-t19 cast-t20 cast-t21 same-length same-length-2 returns
+    same-length-3 same-length-4 returns-2)

@@ -42,4 +42,5 @@ returns-2 c =
 
 pub thrumcomb-replay-spec : {M : Type 1} → statement M
 thrumcomb-replay-spec =
-    tie.close (tie.spec replay-requires enum-known-answer enum-known-answer-2 cast-t18 cast-t19 cast-t20 same-length returns same-length-2 returns-2)
+    tie.close (tie.spec replay-requires enum-known-answer enum-known-answer-2 cast-t18 cast-t19 cast-t20 same-length returns same-length-2
+    returns-2)

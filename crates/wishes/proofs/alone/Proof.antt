@@ -37,11 +37,13 @@ past-second : (c : tie.Else2) → wordAsks (word (c .before .before .before)) �
 unfolding words signBytes
 past-second c = past-first (c .before .before .before) ∙ rw (sym (c .before .same-bytes2 .ensures) ∙ c .if2 .left)
 
-past-third : (c : tie.Else3) → wordAsks (word (c .before .before .before .before .before .before)) ≡ fourth (word (c .before .before .before .before .before .before))
+past-third : (c : tie.Else3) → wordAsks (word (c .before .before .before .before .before .before))
+    ≡ fourth (word (c .before .before .before .before .before .before))
 unfolding words signBytes
 past-third c = past-second (c .before .before .before) ∙ rw (sym (c .before .same-bytes3 .ensures) ∙ c .if3 .left)
 
-past-fourth : (c : tie.Else4) → wordAsks (word (c .before .before .before .before .before .before .before .before .before)) ≡ fifth (word (c .before .before .before .before .before .before .before .before .before))
+past-fourth : (c : tie.Else4) → wordAsks (word (c .before .before .before .before .before .before .before .before .before))
+    ≡ fifth (word (c .before .before .before .before .before .before .before .before .before))
 unfolding words signBytes
 past-fourth c = past-third (c .before .before .before) ∙ rw (sym (c .before .same-bytes4 .ensures) ∙ c .if4 .left)
 

@@ -22,7 +22,10 @@ same-bytes-requires c κs = search needs
 
 returns-2 : tie.Need-returns-2
 unfolding isKnown words signBytes
-returns-2 c = rw (sym (c .before .before .before .before .is-quiet .ensures) ∙ c .before .before .before .if1 .left, sym (c .before .same-bytes .ensures) ∙ c .if2 .taken)
+returns-2 c =
+    let is-quiet = c .before .before .before .before .is-quiet in
+    let if1 = c .before .before .before .if1 in
+    rw (sym (is-quiet .ensures) ∙ if1 .left, sym (c .before .same-bytes .ensures) ∙ c .if2 .taken)
 
 number-requires : tie.Need-number-requires
 number-requires c κs = search needs
@@ -35,7 +38,16 @@ enum-told-2 c = search needs
 
 returns-3 : tie.Need-returns-3
 unfolding isKnown isNumber words signBytes
-returns-3 c = rw (sym (c .before .before .before .before .before .before .before .is-quiet .ensures) ∙ c .before .before .before .before .before .before .if1 .left, sym (c .before .before .before .before .same-bytes .ensures) ∙ c .before .before .before .if2 .left, sym (c .before .before .number .ensures) ∙ c .enum-told2 .given .1)
+returns-3 c =
+    let is-quiet = c .before .before .before .before .before .before .before .is-quiet in
+    let if1 = c .before .before .before .before .before .before .if1 in
+    let same-bytes = c .before .before .before .before .same-bytes in
+    let if2 = c .before .before .before .if2 in
+    rw (
+      sym (is-quiet .ensures) ∙ if1 .left,
+      sym (same-bytes .ensures) ∙ if2 .left,
+      sym (c .before .before .number .ensures) ∙ c .enum-told2 .given .1,
+    )
 
 alone-requires : tie.Need-alone-requires
 alone-requires c κs = search needs
@@ -45,11 +57,35 @@ enum-told-3 c = search needs
 
 returns-4 : tie.Need-returns-4
 unfolding isKnown isNumber words signBytes
-returns-4 c = rw (sym (c .before .before .before .before .before .before .before .before .before .is-quiet .ensures) ∙ c .before .before .before .before .before .before .before .before .if1 .left, sym (c .before .before .before .before .before .before .same-bytes .ensures) ∙ c .before .before .before .before .before .if2 .left, sym (c .before .before .before .before .number .ensures) ∙ c .before .before .enum-told .given .1, ← c .before .alone .ensures, some-asked (c .before .alone .result) (c .match2 .keys2))
+returns-4 c =
+    let is-quiet = c .before .before .before .before .before .before .before .before .before .is-quiet in
+    let if1 = c .before .before .before .before .before .before .before .before .if1 in
+    let same-bytes = c .before .before .before .before .before .before .same-bytes in
+    let if2 = c .before .before .before .before .before .if2 in
+    let number = c .before .before .before .before .number in
+    rw (
+      sym (is-quiet .ensures) ∙ if1 .left,
+      sym (same-bytes .ensures) ∙ if2 .left,
+      sym (number .ensures) ∙ c .before .before .enum-told .given .1,
+      ← c .before .alone .ensures,
+      some-asked (c .before .alone .result) (c .match2 .keys2),
+    )
 
 returns-5 : tie.Need-returns-5
 unfolding isKnown isNumber isAsked words signBytes
-returns-5 c = rw (sym (c .before .before .before .before .before .before .before .before .before .before .is-quiet .ensures) ∙ c .before .before .before .before .before .before .before .before .before .if1 .left, sym (c .before .before .before .before .before .before .before .same-bytes .ensures) ∙ c .before .before .before .before .before .before .if2 .left, sym (c .before .before .before .before .before .number .ensures) ∙ c .before .before .before .enum-told .given .1, sym (c .before .before .alone .ensures) ∙ c .enum-told3 .given .1)
+returns-5 c =
+    let is-quiet = c .before .before .before .before .before .before .before .before .before .before .is-quiet in
+    let if1 = c .before .before .before .before .before .before .before .before .before .if1 in
+    let same-bytes = c .before .before .before .before .before .before .before .same-bytes in
+    let if2 = c .before .before .before .before .before .before .if2 in
+    let number = c .before .before .before .before .before .number in
+    let enum-told-here = c .before .before .before .enum-told in
+    rw (
+      sym (is-quiet .ensures) ∙ if1 .left,
+      sym (same-bytes .ensures) ∙ if2 .left,
+      sym (number .ensures) ∙ enum-told-here .given .1,
+      sym (c .before .before .alone .ensures) ∙ c .enum-told3 .given .1,
+    )
 
 pub is-known-spec : {M : Type 1} → statement M
 is-known-spec =

@@ -27,11 +27,17 @@ same-bytes-requires c κs = search needs
 
 returns-2 : tie.Need-returns-2
 unfolding slotNamed words signBytes
-returns-2 c = rw (sym (c .before .before .before .before .before .before .number .ensures) ∙ c .before .before .before .before .value .given .1, sym (c .before .same-bytes .ensures) ∙ c .if1 .taken)
+returns-2 c =
+    let number = c .before .before .before .before .before .before .number in
+    let value = c .before .before .before .before .value in
+    rw (sym (number .ensures) ∙ value .given .1, sym (c .before .same-bytes .ensures) ∙ c .if1 .taken)
 
 returns-3 : tie.Need-returns-3
 unfolding slotNamed words signBytes
-returns-3 c = rw (sym (c .before .before .before .before .before .before .number .ensures) ∙ c .before .before .before .before .value .given .1, sym (c .before .same-bytes .ensures) ∙ c .if1 .left)
+returns-3 c =
+    let number = c .before .before .before .before .before .before .number in
+    let value = c .before .before .before .before .value in
+    rw (sym (number .ensures) ∙ value .given .1, sym (c .before .same-bytes .ensures) ∙ c .if1 .left)
 
 pub named-slot-spec : {M : Type 1} → statement M
 named-slot-spec =

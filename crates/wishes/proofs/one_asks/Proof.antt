@@ -23,7 +23,9 @@ asking-requires-2 c κs = search needs
 
 returns-2 : tie.Need-returns-2
 unfolding oneAsks
-returns-2 c = c .asking2 .ensures ∙ rw (c .before .alone .ensures, sym (c .before .before .before .is-quiet .ensures) ∙ c .before .before .if1 .left)
+returns-2 c =
+    let is-quiet = c .before .before .before .is-quiet in
+    c .asking2 .ensures ∙ rw (c .before .alone .ensures, sym (is-quiet .ensures) ∙ c .before .before .if1 .left)
 
 pub one-asks-spec : {M : Type 1} → statement M
 one-asks-spec =

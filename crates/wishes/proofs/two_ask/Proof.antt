@@ -16,7 +16,9 @@ asking-requires c κs = search needs
 
 returns : tie.Need-returns
 unfolding twoAsk
-returns c = c .asking .ensures ∙ rw (c .before .alone .ensures, sym (c .before .before .before .is-quiet .ensures) ∙ c .before .before .if1 .taken)
+returns c =
+    let is-quiet = c .before .before .before .is-quiet in
+    c .asking .ensures ∙ rw (c .before .alone .ensures, sym (is-quiet .ensures) ∙ c .before .before .if1 .taken)
 
 is-quiet-requires-2 : tie.Need-is-quiet-requires-2
 is-quiet-requires-2 c κs = search needs
@@ -29,7 +31,15 @@ asking-requires-2 c κs = search needs
 
 returns-2 : tie.Need-returns-2
 unfolding twoAsk
-returns-2 c = c .asking2 .ensures ∙ rw (c .before .alone2 .ensures, sym (c .before .before .before .before .before .is-quiet .ensures) ∙ c .before .before .before .before .if1 .left, sym (c .before .before .before .is-quiet2 .ensures) ∙ c .before .before .if2 .taken)
+returns-2 c =
+    let is-quiet = c .before .before .before .before .before .is-quiet in
+    let if1 = c .before .before .before .before .if1 in
+    let is-quiet2 = c .before .before .before .is-quiet2 in
+    c .asking2 .ensures ∙ rw (
+      c .before .alone2 .ensures,
+      sym (is-quiet .ensures) ∙ if1 .left,
+      sym (is-quiet2 .ensures) ∙ c .before .before .if2 .taken,
+    )
 
 named-slot-requires : tie.Need-named-slot-requires
 named-slot-requires c κs = search needs
@@ -39,7 +49,15 @@ asking-requires-3 c κs = search needs
 
 returns-3 : tie.Need-returns-3
 unfolding twoAsk
-returns-3 c = c .asking3 .ensures ∙ rw (c .before .named-slot .ensures, sym (c .before .before .before .before .before .is-quiet .ensures) ∙ c .before .before .before .before .if1 .left, sym (c .before .before .before .is-quiet2 .ensures) ∙ c .before .before .if2 .left)
+returns-3 c =
+    let is-quiet = c .before .before .before .before .before .is-quiet in
+    let if1 = c .before .before .before .before .if1 in
+    let is-quiet2 = c .before .before .before .is-quiet2 in
+    c .asking3 .ensures ∙ rw (
+      c .before .named-slot .ensures,
+      sym (is-quiet .ensures) ∙ if1 .left,
+      sym (is-quiet2 .ensures) ∙ c .before .before .if2 .left,
+    )
 
 pub two-ask-spec : {M : Type 1} → statement M
 two-ask-spec =

@@ -13,7 +13,8 @@ use Rattle.writer.proofs.put_case.Statement.{statement}
 use Rattle.writer.proofs.put_case.Tie as tie
 
 -- the three parts have room
-parts : (c : tie.Start) → length (headText (c .args .procs) (c .args .policy)) + length (rowsText 3 3 (c .args .table .now) (taskCount (c .args .table .now))) + length (tailText (c .args .end) (c .args .trace .now)) ≤ length (c .args .out .now)
+parts : (c : tie.Start) → length (headText (c .args .procs) (c .args .policy)) + length (rowsText 3 3 (c .args .table .now)
+    (taskCount (c .args .table .now))) + length (tailText (c .args .end) (c .args .trace .now)) ≤ length (c .args .out .now)
 parts c =
     let a = c .args in
     let tasks = rowsText 3 3 (a .table .now) (taskCount (a .table .now)) in
@@ -30,23 +31,40 @@ put-head-requires c κs = omega (arith, parts (c .before .before .before .before
 
 put-rows-requires : tie.Need-put-rows-requires
 put-rows-requires c κs =
-    let head = c .before .before .before .put-head in
-    (omega arith, omega (arith, parts (c .before .before .before .before .before .before .before .before), head .kept .0, head .ensures .behind))
+    let head = c .before .before .before .put-head in (
+      omega arith,
+      omega (
+        arith,
+        parts (c .before .before .before .before .before .before .before .before),
+        head .kept .0,
+        head .ensures .behind,
+      ),
+    )
 
 put-tail-requires : tie.Need-put-tail-requires
 put-tail-requires c κs =
     let head = c .before .before .before .before .before .before .before .put-head in
     let tasks = c .before .before .before .put-rows in
-    omega (arith, parts (c .before .before .before .before .before .before .before .before .before .before .before .before), head .kept .0, head .ensures .behind, tasks .kept .0, tasks .ensures .behind)
+    omega (
+      arith,
+      parts (c .before .before .before .before .before .before .before .before .before .before .before .before),
+      head .kept .0,
+      head .ensures .behind,
+      tasks .kept .0,
+      tasks .ensures .behind,
+    )
 
 same-length : tie.Need-same-length
 same-length c = search needs
 
 returns : tie.Need-returns
 returns c =
-    let a = c .before .before .before .before .before .before .before .before .before .before .before .before .before .before .before .args in
+    let put-head = c .before .before .before .before .before .before .before .before .before .before .put-head in
+    let put-rows = c .before .before .before .before .before .before .put-rows in
+    let a = c .before .before .before .before .before .before .before .before .before .before .before .before .before .before .before .args
+    in
     rw (← case-parts (a .procs) (a .policy) (a .table .now) (a .end) (a .trace .now))
-    (laid-then (c .before .before .before .before .before .before .before .before .before .before .put-head .ensures) (laid-then (c .before .before .before .before .before .before .put-rows .ensures) (c .before .before .put-tail .ensures)))
+    (laid-then (put-head .ensures) (laid-then (put-rows .ensures) (c .before .before .put-tail .ensures)))
 
 pub put-case-spec : {M : Type 1} → statement M
 put-case-spec =

@@ -23,8 +23,14 @@ put-line-requires : tie.Need-put-line-requires
 put-line-requires c κs = omega (arith, parts (c .before .before .before))
 
 -- the line of processors is laid, and the other has room behind it
-behind : (c : tie.After-slice-known2) → c .before .before .put-line .result + length (policyText (c .before .before .before .before .before .before .args .policy)) ≤ length (c .before .before .put-line .last .0)
-behind c = omega (arith, parts (c .before .before .before .before .before .before), c .before .before .put-line .kept .0, c .before .before .put-line .ensures .behind)
+behind : (c : tie.After-slice-known2) → c .before .before .put-line .result + length
+    (policyText (c .before .before .before .before .before .before .args .policy)) ≤ length (c .before .before .put-line .last .0)
+behind c = omega (
+  arith,
+  parts (c .before .before .before .before .before .before),
+  c .before .before .put-line .kept .0,
+  c .before .before .put-line .ensures .behind,
+)
 
 sub-put-policy-line : tie.Need-sub-put-policy-line
 sub-put-policy-line c = omega (arith, behind c)
@@ -36,7 +42,9 @@ part-put-policy-line-end : tie.Need-part-put-policy-line-end
 part-put-policy-line-end c = search needs
 
 put-policy-line-requires : tie.Need-put-policy-line-requires
-put-policy-line-requires c κs = omega (arith, behind (c .before), part-length (c .before .before .before .put-line .result) (c .before .before .before .put-line .last .0))
+put-policy-line-requires c κs =
+    let put-line = c .before .before .before .put-line in
+    omega (arith, behind (c .before), part-length (put-line .result) (put-line .last .0))
 
 add-result : tie.Need-add-result
 add-result c = omega (arith, behind (c .before .before .before .before), c .before .before .put-policy-line .ensures .behind)

@@ -21,7 +21,9 @@ put-word-requires c κs = omega (arith, parts (c .before .before))
 
 put-policy-requires : tie.Need-put-policy-requires
 unfolding wordOf
-put-policy-requires c κs = omega (arith, parts (c .before .before .before .before .before .before), c .before .before .before .put-word .kept .0, c .before .before .before .put-word .ensures .behind)
+put-policy-requires c κs =
+    let put-word = c .before .before .before .put-word in
+    omega (arith, parts (c .before .before .before .before .before .before), put-word .kept .0, put-word .ensures .behind)
 
 -- the newline has room
 last : (c : tie.After-slice-known3) → c .before .before .put-policy .result < length (c .before .before .put-policy .last .0)
@@ -29,7 +31,14 @@ unfolding wordOf
 last c =
     let word = c .before .before .before .before .before .before .put-word in
     let name = c .before .before .put-policy in
-    omega (arith, parts (c .before .before .before .before .before .before .before .before .before), word .kept .0, word .ensures .behind, name .kept .0, name .ensures .behind)
+    omega (
+      arith,
+      parts (c .before .before .before .before .before .before .before .before .before),
+      word .kept .0,
+      word .ensures .behind,
+      name .kept .0,
+      name .ensures .behind,
+    )
 
 slice-write-out : tie.Need-slice-write-out
 slice-write-out c = last c
@@ -39,7 +48,9 @@ add-result c = omega (arith, last c)
 
 returns : tie.Need-returns
 unfolding policyText lineText moreFields wordOf
-returns c = laid-then (c .before .before .before .before .before .before .put-word .ensures) (laid-then (c .before .before .put-policy .ensures) (laid-byte _ 10 _))
+returns c =
+    let put-word = c .before .before .before .before .before .before .put-word in
+    laid-then (put-word .ensures) (laid-then (c .before .before .put-policy .ensures) (laid-byte _ 10 _))
 
 same-length : tie.Need-same-length
 same-length c = laid-length (returns c)

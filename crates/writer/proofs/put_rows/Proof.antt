@@ -24,7 +24,9 @@ loop-holds : tie.Need-loop-holds Inv-loop μ-loop
 loop-holds c = rw (rows-none _ _ _) (omega arith, refl, laid-none _ _)
 
 -- the numbers of the row at hand are there
-inside : (c : tie.In-loop Inv-loop μ-loop) → c .before .loop .i * c .before .before .before .before .args .width + c .before .before .before .before .args .width ≤ length (c .before .before .before .before .args .vs .now)
+inside : (c : tie.In-loop Inv-loop μ-loop)
+    → c .before .loop .i * c .before .before .before .before .args .width + c .before .before .before .before .args .width
+    ≤ length (c .before .before .before .before .args .vs .now)
 inside c =
     let i = c .before .loop .i in
     let w = c .before .before .before .before .args .width in
@@ -32,7 +34,10 @@ inside c =
     omega (arith, mul-le-mul-right w h, suc-mul i w)
 
 -- its line has room in the unused end
-room : (c : tie.In-loop Inv-loop μ-loop) → c .before .loop .end + length (rowText (c .before .before .before .before .args .word) (c .before .before .before .before .args .width) (c .before .before .before .before .args .vs .now) (c .before .loop .i)) ≤ length (c .before .loop .out)
+room : (c : tie.In-loop Inv-loop μ-loop)
+    → c .before .loop .end + length (rowText (c .before .before .before .before .args .word)
+    (c .before .before .before .before .args .width) (c .before .before .before .before .args .vs .now) (c .before .loop .i))
+    ≤ length (c .before .loop .out)
 room c =
     let l = c .before .loop in
     let a = c .before .before .before .before .args in
@@ -74,9 +79,13 @@ put-line-requires c κs =
 -- the row is laid behind those before it
 laid : (c : tie.After-put-line Inv-loop μ-loop)
     → Laid (c .before .before .before .before .loop .end)
-    (rowText (c .before .before .before .before .before .before .before .args .word) (c .before .before .before .before .before .before .before .args .width) (c .before .before .before .before .before .before .before .args .vs .now) (c .before .before .before .before .loop .i))
+    (rowText (c .before .before .before .before .before .before .before .args .word)
+    (c .before .before .before .before .before .before .before .args .width)
+    (c .before .before .before .before .before .before .before .args .vs .now) (c .before .before .before .before .loop .i))
     (c .before .before .before .before .loop .out)
-    (putMid (c .before .before .before .before .loop .end) (length (c .before .before .before .before .loop .out) - c .before .before .before .before .loop .end) (c .before .before .before .before .loop .out) (c .put-line .last .0))
+    (putMid (c .before .before .before .before .loop .end)
+    (length (c .before .before .before .before .loop .out) - c .before .before .before .before .loop .end)
+    (c .before .before .before .before .loop .out) (c .put-line .last .0))
     (c .before .before .before .before .loop .end + c .put-line .result)
 laid c =
     let l = c .before .before .before .before .loop in

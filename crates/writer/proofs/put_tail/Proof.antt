@@ -15,7 +15,8 @@ use Rattle.writer.proofs.put_tail.Statement.{statement}
 use Rattle.writer.proofs.put_tail.Tie as tie
 
 -- the end line and the releases have room
-parts : (c : tie.Start) → c .args .at + length (numberLine 9 4 (c .args .end ∷ [])) + length (rowsText 5 2 (c .args .trace .now) (releaseCount (c .args .trace .now))) ≤ length (c .args .out .now)
+parts : (c : tie.Start) → c .args .at + length (numberLine 9 4 (c .args .end ∷ [])) + length (rowsText 5 2 (c .args .trace .now)
+    (releaseCount (c .args .trace .now))) ≤ length (c .args .out .now)
 unfolding tailText endText wordOf
 parts c = omega (arith, length-append (endText (c .args .end)) (rowsText 5 2 (c .args .trace .now) (releaseCount (c .args .trace .now))))
 
@@ -32,19 +33,27 @@ slice-aggregate-put-line : tie.Need-slice-aggregate-put-line
 slice-aggregate-put-line c = search needs
 
 put-line-requires : tie.Need-put-line-requires
-put-line-requires c κs = omega (arith, parts (c .before .before .before .before), part-length (c .before .before .before .before .args .at) (c .before .before .before .before .args .out .now))
+put-line-requires c κs =
+    let start = c .before .before .before .before in
+    omega (arith, parts (c .before .before .before .before), part-length (start .args .at) (start .args .out .now))
 
 -- the end line is laid
 ended : (c : tie.After-put-line)
     → Laid (c .before .before .before .before .before .args .at)
     (numberLine 9 4 (c .before .before .before .before .before .args .end ∷ []))
     (c .before .before .before .before .before .args .out .now)
-    (putMid (c .before .before .before .before .before .args .at) (length (c .before .before .before .before .before .args .out .now) - c .before .before .before .before .before .args .at) (c .before .before .before .before .before .args .out .now) (c .put-line .last .0))
+    (putMid (c .before .before .before .before .before .args .at)
+    (length (c .before .before .before .before .before .args .out .now) - c .before .before .before .before .before .args .at)
+    (c .before .before .before .before .before .args .out .now) (c .put-line .last .0))
     (c .before .before .before .before .before .args .at + c .put-line .result)
 ended c = laid-part _ _ _ _ _ (omega (arith, parts (c .before .before .before .before .before))) (c .put-line .ensures)
 
 add-put-rows : tie.Need-add-put-rows
-add-put-rows c = omega (arith, parts (c .before .before .before .before .before .before .before .before), ended (c .before .before .before) .behind)
+add-put-rows c = omega (
+  arith,
+  parts (c .before .before .before .before .before .before .before .before),
+  ended (c .before .before .before) .behind,
+)
 
 put-rows-requires : tie.Need-put-rows-requires
 put-rows-requires c κs =

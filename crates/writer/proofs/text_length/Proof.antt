@@ -73,10 +73,23 @@ last : (c : tie.After-width2) → c .width2 .result ≤ 10
 last c = omega (arith, c .width2 .ensures, at-most-ten (c .before .before .before .before .before .before .before .args .end))
 
 add-result-3 : tie.Need-add-result-3
-add-result-3 c = omega (arith, first (c .before .before .before .before), head (c .before .before .before), tasks (c .before .before), last c)
+add-result-3 c = omega (
+  arith,
+  first (c .before .before .before .before),
+  head (c .before .before .before),
+  tasks (c .before .before),
+  last c,
+)
 
 add-result-4 : tie.Need-add-result-4
-add-result-4 c = omega (arith, first (c .before .before .before .before), head (c .before .before .before), tasks (c .before .before), releases (c .before), last c)
+add-result-4 c = omega (
+  arith,
+  first (c .before .before .before .before),
+  head (c .before .before .before),
+  tasks (c .before .before),
+  releases (c .before),
+  last c,
+)
 
 returns : tie.Need-returns
 returns c =

@@ -22,7 +22,9 @@ returns : tie.Need-returns
 returns c =
     let f = c .before .case-fault in
     let room = c .before .before .before .before .before .args .out .now in
-    refused (case (c .before .before .before .before .before)) room (f .result) (case-at-fault (case (c .before .before .before .before .before)) (length room) (f .result) (f .ensures) (c .if1 .taken)) (c .if1 .taken)
+    refused (case (c .before .before .before .before .before)) room (f .result)
+    (case-at-fault (case (c .before .before .before .before .before)) (length room) (f .result) (f .ensures) (c .if1 .taken))
+    (c .if1 .taken)
 
 -- past the first test the case has no fault
 clear : (c : tie.Else1) → caseFault (case (c .before .before .before .before .before)) .number ≡ 0
@@ -35,7 +37,9 @@ room-fault-requires : tie.Need-room-fault-requires
 room-fault-requires c κs = search needs
 
 -- what the room's test found
-tested : (c : tie.After-room-fault) → c .room-fault .result ≡ roomFault (length (caseText (case (c .before .before .before .before .before .before .before)))) (length (c .before .before .before .before .before .before .before .args .out .now))
+tested : (c : tie.After-room-fault) → c .room-fault .result
+    ≡ roomFault (length (caseText (case (c .before .before .before .before .before .before .before))))
+    (length (c .before .before .before .before .before .before .before .args .out .now))
 tested c = c .room-fault .ensures ∙ rw (c .before .text-length .ensures)
 
 returns-2 : tie.Need-returns-2
@@ -43,10 +47,12 @@ returns-2 c =
     let f = c .before .room-fault in
     let s = c .before .before .before .before .before .before .before .before in
     let room = s .args .out .now in
-    refused (case s) room (f .result) (room-at-fault (case s) (length room) (f .result) (clear (c .before .before .before)) (tested (c .before)) (c .if2 .taken)) (c .if2 .taken)
+    refused (case s) room (f .result) (room-at-fault (case s) (length room) (f .result) (clear (c .before .before .before))
+    (tested (c .before)) (c .if2 .taken)) (c .if2 .taken)
 
 -- past the second test the text fits
-enough : (c : tie.Else2) → roomFault (length (caseText (case (c .before .before .before .before .before .before .before .before)))) (length (c .before .before .before .before .before .before .before .before .args .out .now)) .number ≡ 0
+enough : (c : tie.Else2) → roomFault (length (caseText (case (c .before .before .before .before .before .before .before .before))))
+    (length (c .before .before .before .before .before .before .before .before .args .out .now)) .number ≡ 0
 enough c = ap (λ (f : Fault). f .number) (sym (tested (c .before))) ∙ c .if2 .left
 
 put-case-requires : tie.Need-put-case-requires
@@ -60,7 +66,8 @@ returns-3 c =
     let e = c .before .before .before .before in
     let s = e .before .before .before .before .before .before .before .before in
     let room = s .args .out .now in
-    written (case s) room _ _ (none-at-fault (case s) (length room) (clear (e .before .before .before)) (enough e)) (room-clear _ _ (enough e)) (c .before .before .put-case .ensures)
+    written (case s) room _ _ (none-at-fault (case s) (length room) (clear (e .before .before .before)) (enough e))
+    (room-clear _ _ (enough e)) (c .before .before .put-case .ensures)
 
 pub write-spec : {M : Type 1} → statement M
 write-spec =
