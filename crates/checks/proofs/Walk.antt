@@ -1,6 +1,6 @@
 -- The walk over the releases that checks them, apart from the code.
 use mathlib.Core.Path.{_≡_, refl, ap, sym, _∙_}
-use mathlib.Core.Bool.{Bool, true, false}
+use mathlib.Core.Bool.{Bool, true, false, _&&_, false≢true}
 use mathlib.Core.List.{List, [], _∷_}
 use Prim.Native.Nat.{ℕ, suc, _+_, _-_, _≤_, _<_}
 use native.Mathlib.Numerals.{add-one}
@@ -12,13 +12,14 @@ use Rattle.rules.specs.declared.Fault.{Fault}
 use Rattle.rules.specs.Words.{pick}
 use Rattle.rules.specs.Limits.{maxTasks, maxEnd}
 use Rattle.rules.specs.Case.{taskCount, period, releaseCount, timeOf, nameOf}
-use Rattle.rules.specs.Refusals.{noFault, unless, first, firstOf, named, inOrder, apart, lastBefore, releaseFault, releasesFault}
+use Rattle.rules.specs.Refusals.{noFault, unless, orNext, first, firstOf, named, inOrder, apart, lastBefore, releaseFault, releasesFault}
 use Rattle.lists.specs.Lists.{tab-at, tab-set}
-use Rattle.legal.specs.Firsts.{unless-clear, AllClear, none-yet, none-more, first-hit}
+use Rattle.lists.specs.Tests.{and-left, and-right}
+use Rattle.legal.specs.Firsts.{unless-clear, AllClear, row-stop, row-passed, none-yet, none-more, first-hit}
 use Rattle.legal.specs.Passing.{named-clear, Released, release-clear, release-none}
 use Rattle.checks.specs.Needs.{lasts, Early}
 
--- the tests of a release before the last one, and the last, 10, which is asked of a release that names a task
+-- the tests of a release before the last one, and the last, 10, which is asked of a release that passes them
 abbrev pub nearTests : List ℕ → ℕ → List ℕ → ℕ → List Fault
 nearTests ts e rs j = unless (named ts (nameOf rs j)) 8 (suc j) ∷ unless (ltb (timeOf rs j) e) 11 (suc j) ∷ unless (inOrder rs j) 9 (suc j)
     ∷ []
@@ -26,23 +27,58 @@ nearTests ts e rs j = unless (named ts (nameOf rs j)) 8 (suc j) ∷ unless (ltb 
 abbrev pub sinceTest : List ℕ → List ℕ → ℕ → Fault
 sinceTest ts rs j = unless (apart (lastBefore rs j (nameOf rs j)) (period ts (nameOf rs j - 1)) (timeOf rs j)) 10 (suc j)
 
--- as the code finds them: from the name and the time that were read
-pub near-found : (ts : List ℕ) (e : ℕ) (rs : List ℕ) (j name t : ℕ) (some ordered : Bool) (a b d x : Fault) → name ≡ nameOf rs j
-    → t ≡ timeOf rs j
-    → some ≡ named ts name → ordered ≡ inOrder rs j → a ≡ unless some 8 (j + 1) → b ≡ unless (ltb t e) 11 (j + 1)
-    → d ≡ unless ordered 9 (j + 1)
-    → x ≡ first (a ∷ b ∷ d ∷ []) → x ≡ first (nearTests ts e rs j)
-near-found ts e rs j name t some ordered a b d x p q n o f g h y = y ∙ rw (f, g, h, n, o, p, q, add-one j)
+-- those before the last hold, as the code asks them: of the name and the time that were read
+pub record Near (ts : List ℕ) (e : ℕ) (rs : List ℕ) (j name t : ℕ) (some ordered : Bool) : Type 0 where
+  pub name-read : name ≡ nameOf rs j
+  pub time-read : t ≡ timeOf rs j
+  pub is-named : some ≡ named ts name
+  pub is-ordered : ordered ≡ inOrder rs j
 
--- as the code finds it: from what is kept of the last release, T and the time that were read
-pub since-found : (ts rs : List ℕ) (j last T t : ℕ) (far : Bool) (f : Fault) → last ≡ lastBefore rs j (nameOf rs j)
-    → T ≡ period ts (nameOf rs j - 1) → t ≡ timeOf rs j
-    → far ≡ apart last T t → f ≡ unless far 10 (j + 1) → f ≡ sinceTest ts rs j
-since-found ts rs j last T t far f p q r a e = e ∙ rw (a, p, q, r, add-one j)
+module _ (ts : List ℕ) (e : ℕ) (rs : List ℕ) (j name t : ℕ) (some ordered : Bool) (w : Near ts e rs j name t some ordered) where
+  -- the tests as they are found
+  pub near-found : (a b d x : Fault) → a ≡ unless some 8 (j + 1) → b ≡ unless (ltb t e) 11 (j + 1) → d ≡ unless ordered 9 (j + 1)
+      → x ≡ first (a ∷ b ∷ d ∷ []) → x ≡ first (nearTests ts e rs j)
+  near-found a b d x f g h y = y ∙ rw (f, g, h, w .is-named, w .is-ordered, w .name-read, w .time-read, add-one j)
 
-pub near-named : (ts : List ℕ) (e : ℕ) (rs : List ℕ) (j : ℕ) → AllClear (nearTests ts e rs j)
-    → (1 ≤ nameOf rs j) × (nameOf rs j ≤ taskCount ts)
-near-named ts e rs j w = named-clear ts (nameOf rs j) (unless-clear (named ts (nameOf rs j)) 8 (suc j) (omega arith) (w .0))
+  -- one of them fails
+  pub near-fails : ((some && ltb t e) && ordered) ≡ false → (x : Fault) → x ≡ first (nearTests ts e rs j) → x ≡ releaseFault ts e rs j
+  unfolding releaseFault
+  near-fails q x y =
+      row-stop x (nearTests ts e rs j) (sinceTest ts rs j ∷ []) y (λ z. false≢true (sym q ∙ all (row-passed x (nearTests ts e rs j) y z)))
+    where
+      all : AllClear (nearTests ts e rs j) → ((some && ltb t e) && ordered) ≡ true
+      all c =
+          rw (
+            w .is-named,
+            w .is-ordered,
+            w .name-read,
+            w .time-read,
+            unless-clear (named ts (nameOf rs j)) 8 (suc j) (omega arith) (c .0),
+            unless-clear (ltb (timeOf rs j) e) 11 (suc j) (omega arith) (c .1 .0),
+            unless-clear (inOrder rs j) 9 (suc j) (omega arith) (c .1 .1 .0),
+          )
+
+  module _ (q : ((some && ltb t e) && ordered) ≡ true) where
+    -- all of them hold: the release names a task of the table
+    pub near-named : (1 ≤ nameOf rs j) × (nameOf rs j ≤ taskCount ts)
+    near-named =
+        let h = and-left some _ (and-left (some && ltb t e) ordered q) in
+        named-clear ts (nameOf rs j) (sym (w .is-named ∙ ap (named ts) (w .name-read)) ∙ h)
+
+    -- and the last test is what is left, as the code finds it: from what is kept of the last release and T
+    pub since-found : (last T : ℕ) (far : Bool) (f : Fault) → last ≡ lastBefore rs j (nameOf rs j) → T ≡ period ts (nameOf rs j - 1)
+        → far ≡ apart last T t → f ≡ unless far 10 (j + 1) → f ≡ releaseFault ts e rs j
+    unfolding releaseFault orNext
+    since-found last T far f p r a x =
+        let found : f ≡ sinceTest ts rs j = x ∙ rw (a, p, r, w .time-read, add-one j) in
+        let named-holds = sym (ap (named ts) (w .name-read)) ∙ sym (w .is-named) ∙ and-left some _ (and-left (some && ltb t e) ordered q) in
+        let soon-holds = ap (λ (n : ℕ). ltb n e) (sym (w .time-read)) ∙ and-right some _ (and-left (some && ltb t e) ordered q) in
+        let order-holds = sym (w .is-ordered) ∙ and-right (some && ltb t e) ordered q in
+        found ∙ rw (named-holds, soon-holds, order-holds) (alone (apart (lastBefore rs j (nameOf rs j)) (period ts (nameOf rs j - 1)) (timeOf rs j)))
+      where
+        alone : (b : Bool) → unless b 10 (suc j) ≡ first (noFault ∷ noFault ∷ noFault ∷ unless b 10 (suc j) ∷ [])
+        alone true = refl
+        alone false = refl
 
 -- what stands in the array of last releases
 pub last-at : (rs last : List ℕ) (j name : ℕ) → last ≡ lasts rs j → 1 ≤ name → name ≤ maxTasks

@@ -29,7 +29,8 @@ pub fn tasks_fault(table: &[u32]) -> Fault
     faults::fault(0, 0)
 }
 
-// The tests of a release. What `last` holds of a task is one more than the time of its last release, or 0.
+// The tests of a release, of which the first that fails is made into a fault where one does: most releases pass. What `last` holds of a
+// task is one more than the time of its last release, or 0.
 pub fn release_fault(
     table: &[u32],
     end: u32,
@@ -44,18 +45,18 @@ pub fn release_fault(
     let time = cases::time_of(trace, j);
     let name = cases::name_of(trace, j);
     let place = (j + 1) as u32;
-    let named = faults::refuse_unless(faults::is_named(table, name), 8, place);
-    let soon = faults::refuse_unless(time < end, 11, place);
-    let ordered = faults::refuse_unless(faults::in_order(trace, j), 9, place);
-    let found = faults::first_of_three(named, soon, ordered);
-    let number = found.number;
-    if number != 0 {
-        return found;
+    let named = faults::is_named(table, name);
+    let soon = time < end;
+    let ordered = faults::in_order(trace, j);
+    if faults::both(faults::both(named, soon), ordered) {
+        let i = name as usize - 1;
+        let apart = faults::is_apart(last[i], cases::period_of(table, i), time);
+        return faults::refuse_unless(apart, 10, place);
     }
-    let i = name as usize - 1;
-    let apart = faults::is_apart(last[i], cases::period_of(table, i), time);
-    let since = faults::refuse_unless(apart, 10, place);
-    faults::or_next(found, faults::first_of_one(since))
+    let unnamed = faults::refuse_unless(named, 8, place);
+    let too_late = faults::refuse_unless(soon, 11, place);
+    let unordered = faults::refuse_unless(ordered, 9, place);
+    faults::first_of_three(unnamed, too_late, unordered)
 }
 
 pub fn releases_fault(table: &[u32], end: u32, trace: &[u32]) -> Fault
