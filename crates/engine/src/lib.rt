@@ -11,7 +11,7 @@ ghost use Rattle.rules.specs.Slot.{setNumber};
 ghost use Rattle.rules.specs.Replay.{fresh};
 ghost use Rattle.counts.specs.Needs.{Counts};
 ghost use Rattle.bridge.specs.Turn.{Reached};
-ghost use Rattle.engine.specs.Walks.{Orderly, places, releases, Rests, roomAt, Walking, Turned, LastRan};
+ghost use Rattle.engine.specs.Walks.{Orderly, places, releases, Rests, roomAt, LastRan};
 use rules::RELEASE_WIDTH;
 use rules::Replayed;
 use rules::Run;
@@ -65,64 +65,8 @@ fn rests(trace: &[u32], next: usize, jobs: usize, clock: u32) -> bool
 
 // ---- the slots of a case
 
-// The releases of a time and its slot: the run that it leaves, the set that ran, and how the trace then stands. The records are
-// brought up to date where they are wanted.
-fn turn(
-    run: Run,
-    procs: u32,
-    policy: u32,
-    table: &[u32],
-    counts: &[u32; 32],
-    end: u32,
-    trace: &[u32],
-    clock: u32,
-    place: &mut [usize; 32],
-    next: &mut usize,
-    jobs: &mut usize,
-    ran: &mut [bool; 32],
-    noting: bool,
-    out: &mut [u32],
-) -> Run
-    requires { ⌜ Accepted (caseOf procs policy (now table) end (now trace)) ⌝ }
-    requires { ⌜ Counts procs (now table) (now counts) ⌝ }
-    requires { ⌜ Walking (caseOf procs policy (now table) end (now trace)) clock run (now place) (now next) (now jobs) ⌝ }
-    requires { ⌜ clock < end ⌝ }
-    requires { ⌜ (noting ≡ true → now out ≡ roomAt (caseOf procs policy (now table) end (now trace)) clock (now out)) ⌝ }
-    ensures { λ after. ⌜ Turned (caseOf procs policy (now (table .entry)) end (now (trace .entry))) clock after (now (place .exit))
-        (now (next .exit)) (now (jobs .exit)) (now (ran .exit))
-        × (noting ≡ true → now (out .exit) ≡ roomAt (caseOf procs policy (now (table .entry)) end (now (trace .entry))) (suc clock)
-        (now (out .entry))) ⌝ }
-{
-    let mut released = [false; 32];
-    let mut demoted = [false; 32];
-    let mut finished = [false; 32];
-    let mut missed = [false; 32];
-    let mut missed_next = [false; 32];
-    let from = *next;
-    *next = take_releases(trace, from, clock, place, &mut released);
-    let after = slot::step(
-        run,
-        procs,
-        policy,
-        table,
-        counts,
-        &released,
-        clock,
-        jobs,
-        &mut missed,
-        &mut demoted,
-        ran,
-        &mut finished,
-        &mut missed_next,
-    );
-    if noting {
-        notes::note_slot(out, place, &finished, &demoted, &missed_next, clock);
-    }
-    after
-}
-
 // The slots before a time, from the first run on: the set that ran in the last of them, with the records where they are wanted. This one
-// loop serves every call, so that a slot is compiled into it and the run is copied less.
+// loop serves every call, and a slot goes straight from run to run: with a function between them the run is copied once more.
 fn walk(
     first: Run,
     procs: u32,
@@ -154,22 +98,30 @@ fn walk(
         if rests(trace, next, jobs, clock) {
             ran = [false; 32];
         } else {
-            run = turn(
+            let mut released = [false; 32];
+            let mut missed = [false; 32];
+            let mut demoted = [false; 32];
+            let mut finished = [false; 32];
+            let mut missed_next = [false; 32];
+            next = take_releases(trace, next, clock, &mut place, &mut released);
+            run = slot::step(
                 run,
                 procs,
                 policy,
                 table,
                 &counts,
-                end,
-                trace,
+                &released,
                 clock,
-                &mut place,
-                &mut next,
                 &mut jobs,
+                &mut missed,
+                &mut demoted,
                 &mut ran,
-                noting,
-                out,
+                &mut finished,
+                &mut missed_next,
             );
+            if noting {
+                notes::note_slot(out, &place, &finished, &demoted, &missed_next, clock);
+            }
         }
         clock += 1;
     }

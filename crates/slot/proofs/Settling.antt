@@ -6,8 +6,8 @@ use Prim.Native.Nat.{ℕ, _+_, _≤_, _<_}
 use native.Mathlib.Nat.{zero-add}
 use native.Mathlib.Numerals.{add-one}
 use native.Mathlib.Omega.{arith}
-use lib.ListN.{getD, set, take, drop, List·getD-append}
-use lib.Seq.{length-take-le, getD-take}
+use lib.ListN.{length, getD, set, take, drop, length-append, length-drop, List·getD-append}
+use lib.Seq.{getD-set-same, length-take-le, getD-take}
 use Rattle.rules.specs.Words.{pick, bit, sum, countIn, mapAt}
 use Rattle.rules.specs.Counts.{freeCount}
 use Rattle.rules.specs.Policies.{demoting}
@@ -84,6 +84,12 @@ filling-past n ys xs s i d l w =
     List·getD-append (take (i + 1) ys) (drop (i + 1) xs) d i (omega (arith, length-take-le (i + 1) ys (omega (arith, w .long′)))) ∙
     getD-take (i + 1) ys i d (omega arith)
 
+-- a run that is being filled has its 32 tasks
+long : {ys xs ts : List Task} {i : ℕ} → Filling 32 ys xs ts i → length ts ≡ 32
+long {ys} {xs} {ts} {i} w =
+    ap length (w .so-far) ∙ length-append (take i ys) (drop i xs)
+    ∙ omega (arith, w .within, w .long, length-take-le i ys (omega (arith, w .within, w .long′)), length-drop i xs)
+
 -- one task more is counted
 count-more : (p : ℕ → Bool) (i n m : ℕ) (b : Bool) → n ≡ countIn p 0 i → m ≡ n + bit b → p i ≡ b → m ≡ countIn p 0 (i + 1)
 unfolding sum
@@ -94,7 +100,7 @@ pub record Settling (g : Setup) (now : ℕ) (s : TaskSet) (r : Run) (ts : List T
   pub full : Full r
   pub tasks : Filling 32 (mapAt (settledTask g now s) (r .tasks)) (r .tasks) ts i
   pub removed : Marking (missed g now s r) ms i
-  pub low : Marking (demotedNow g now s r) ds i
+  pub demotes : Marking (demotedNow g now s r) ds i
   pub there : Marking (present (settled g now s r)) ps i
   pub few : n ≤ i
   pub counts : n ≡ countIn (present (settled g now s r)) 0 i
@@ -104,7 +110,7 @@ pub record Changed (g : Setup) (now : ℕ) (s : TaskSet) (r : Run) (ts : List Ta
   pub full : Full r
   pub tasks : Filling 32 (mapAt (settledTask g now s) (r .tasks)) (r .tasks) ts (i + 1)
   pub removed : Marking (missed g now s r) ms (i + 1)
-  pub low : Marking (demotedNow g now s r) ds (i + 1)
+  pub demotes : Marking (demotedNow g now s r) ds (i + 1)
 
 pub settle-none : (g : Setup) (now : ℕ) (s : TaskSet) (r : Run) → Full r → Settling g now s r (r .tasks) nobody nobody nobody 0 0
 unfolding sum
@@ -113,7 +119,7 @@ settle-none g now s r h =
       full = h;
       tasks = each-none (settledTask g now s) 32 (r .tasks) h;
       removed = mark-none _;
-      low = mark-none _;
+      demotes = mark-none _;
       there =
           mark-none _;
       few = omega arith;
@@ -133,29 +139,29 @@ module _ (g : Setup) (now : ℕ) (s : TaskSet) (r : Run) (ts : List Task) (ms ds
   unfolding missed
   removed-as = ap (λ (t : Task). isMissed now (t .job)) (sym was)
 
-  low-as : demotedNow g now s r i ≡ (demoting (g .policy) && isDemotedNow (readyTask g now s i (getD ts i noTask) .job))
+  demotes-as : demotedNow g now s r i ≡ (demoting (g .policy) && isDemotedNow (readyTask g now s i (getD ts i noTask) .job))
   unfolding demotedNow
-  low-as = ap (λ (t : Task). demoting (g .policy) && isDemotedNow (t .job))
+  demotes-as = ap (λ (t : Task). demoting (g .policy) && isDemotedNow (t .job))
       (ready-at g now s r i l (w .full) ∙ ap (readyTask g now s i) (sym was))
 
-  pub settle-store : (f : ℕ) (u v : Task) (a b : Bool) → (s i ≡ true → f ≡ freeCount (g .procs) (g .table) i)
+  stored : (f : ℕ) (u v : Task) (a b : Bool) → (s i ≡ true → f ≡ freeCount (g .procs) (g .table) i)
       → u ≡ readiedTask (g .table) i f (s i) now (getD ts i noTask)
       → b ≡ (demoting (g .policy) && isDemotedNow (u .job)) → v ≡ demotedIf b u → a ≡ isMissed now (getD ts i noTask .job)
       → Changed g now s r (set ts i v) (set ms i a) (set ds i b) i
-  settle-store f u v a b h y q z x =
+  stored f u v a b h y q z x =
       let e : u ≡ readyTask g now s i (getD ts i noTask) = y ∙ ready-as g now i f (s i) (getD ts i noTask) h in
       let o : v ≡ settledTask g now s i (getD ts i noTask) = z ∙ rw (q, e) in
       record {
         full = w .full;
         tasks = each-store (settledTask g now s) 32 (r .tasks) ts i noTask v l (w .tasks) o;
         removed = mark-store (missed g now s r) ms i a l (w .removed) (x ∙ sym removed-as);
-        low = mark-store (demotedNow g now s r) ds i b l (w .low) (q ∙ rw e (sym low-as));
+        demotes = mark-store (demotedNow g now s r) ds i b l (w .demotes) (q ∙ rw e (sym demotes-as));
       }
 
   -- no step changes it
-  pub settle-keep : (s i || isMissed now (getD ts i noTask .job) || (demoting (g .policy) && isDemotedNow (getD ts i noTask .job))) ≡ false
+  kept : (s i || isMissed now (getD ts i noTask .job) || (demoting (g .policy) && isDemotedNow (getD ts i noTask .job))) ≡ false
       → Changed g now s r ts ms ds i
-  settle-keep e =
+  kept e =
       let f = either-false (s i || isMissed now (getD ts i noTask .job)) _ e in
       let h = either-false (s i) (isMissed now (getD ts i noTask .job)) (f .0) in
       let k = ready-same g now s i (getD ts i noTask) (h .0) (h .1) in
@@ -164,8 +170,8 @@ module _ (g : Setup) (now : ℕ) (s : TaskSet) (r : Run) (ts : List Task) (ms ds
         tasks = each-keep (settledTask g now s) 32 (r .tasks) ts i noTask l (w .tasks)
             (ap (demotedUnder (demoting (g .policy))) k ∙ demoted-same (demoting (g .policy)) (getD ts i noTask) (f .1));
         removed = mark-keep (missed g now s r) ms i l (w .removed) (removed-as ∙ h .1);
-        low = mark-keep (demotedNow g now s r) ds i l (w .low)
-            (low-as ∙ ap (λ (t : Task). demoting (g .policy) && isDemotedNow (t .job)) k ∙ f .1);
+        demotes = mark-keep (demotedNow g now s r) ds i l (w .demotes)
+            (demotes-as ∙ ap (λ (t : Task). demoting (g .policy) && isDemotedNow (t .job)) k ∙ f .1);
       }
 
   here : {ts' : List Task} {ms' ds' : List Bool} → Changed g now s r ts' ms' ds' i
@@ -175,34 +181,54 @@ module _ (g : Setup) (now : ℕ) (s : TaskSet) (r : Run) (ts : List Task) (ms ds
       ap (λ (x : Task). isPresent (x .job)) (sym (filling-past 32 _ _ ts' i noTask l (v .tasks)))
 
   -- it is counted
-  pub settle-next : (ts' : List Task) (ms' ds' : List Bool) (d : Bool) (m : ℕ) → Changed g now s r ts' ms' ds' i
+  counted : (ts' : List Task) (ms' ds' : List Bool) (d : Bool) (m : ℕ) → Changed g now s r ts' ms' ds' i
       → d ≡ isPresent (getD ts' i noTask .job)
       → m ≡ n + bit (isPresent (getD ts' i noTask .job)) → Settling g now s r ts' ms' ds' (set ps i d) m (i + 1)
   unfolding present
-  settle-next ts' ms' ds' d m v p k =
+  counted ts' ms' ds' d m v p k =
       let t = here v in
       record {
         full = v .full;
         tasks = v .tasks;
         removed = v .removed;
-        low = v .low;
+        demotes = v .demotes;
         there = mark-store (present (settled g now s r)) ps i d l (w .there) (p ∙ sym t);
         few = bit-few n m i (isPresent (getD ts' i noTask .job)) (w .few) k;
         counts = count-more (present (settled g now s r)) i n m (isPresent (getD ts' i noTask .job)) (w .counts) k t;
       }
+
+  -- it is changed, written and counted
+  pub settle-store : (f : ℕ) (u v : Task) (a b d : Bool) (m : ℕ) → (s i ≡ true → f ≡ freeCount (g .procs) (g .table) i)
+      → u ≡ readiedTask (g .table) i f (s i) now (getD ts i noTask)
+      → b ≡ (demoting (g .policy) && isDemotedNow (u .job)) → v ≡ demotedIf b u → a ≡ isMissed now (getD ts i noTask .job)
+      → d ≡ isPresent (v .job) → m ≡ n + bit (isPresent (v .job))
+      → Settling g now s r (set ts i v) (set ms i a) (set ds i b) (set ps i d) m (i + 1)
+  settle-store f u v a b d m h y q z x p k =
+      let e : getD (set ts i v) i noTask ≡ v = getD-set-same ts i v noTask (omega (arith, long (w .tasks))) in
+      counted (set ts i v) (set ms i a) (set ds i b) d m (stored f u v a b h y q z x) (rw e p) (rw e k)
+
+  -- it can be changed and is not: it has a job, and is counted as it stands
+  pub settle-keep : (s i || isPresent (getD ts i noTask .job)) ≡ true
+      → (s i || isMissed now (getD ts i noTask .job) || (demoting (g .policy) && isDemotedNow (getD ts i noTask .job))) ≡ false
+      → Settling g now s r ts ms ds (set ps i true) (n + 1) (i + 1)
+  settle-keep c e =
+      let f = either-false (s i || isMissed now (getD ts i noTask .job)) _ e in
+      let h = either-false (s i) (isMissed now (getD ts i noTask .job)) (f .0) in
+      let p : isPresent (getD ts i noTask .job) ≡ true = rw (h .0) at c in
+      counted ts ms ds true (n + 1) (kept e) (sym p) (rw p refl)
 
   -- it has no job, and none is released
   pub settle-skip : (s i || isPresent (getD ts i noTask .job)) ≡ false → Settling g now s r ts ms ds ps n (i + 1)
   unfolding present
   settle-skip e =
       let f = either-false (s i) (isPresent (getD ts i noTask .job)) e in
-      let v = settle-keep (idle-kept (demoting (g .policy)) (s i) (getD ts i noTask .job) (f .0) (f .1)) in
+      let v = kept (idle-kept (demoting (g .policy)) (s i) (getD ts i noTask .job) (f .0) (f .1)) in
       let t = here v ∙ f .1 in
       record {
         full = v .full;
         tasks = v .tasks;
         removed = v .removed;
-        low = v .low;
+        demotes = v .demotes;
         there = mark-keep (present (settled g now s r)) ps i l (w .there) t;
         few = omega (arith, w .few);
         counts = count-more (present (settled g now s r)) i n n false (w .counts) (omega arith) t;
@@ -222,6 +248,6 @@ settle-all g now s r a ms ds ps n i l w =
       run = x;
       jobs = rw x (rw e at (w .counts));
       missed = mark-all _ ms i l (w .removed);
-      demoted = mark-all _ ds i l (w .low);
+      demoted = mark-all _ ds i l (w .demotes);
       present = rw x (mark-all (present (settled g now s r)) ps i l (w .there));
     }

@@ -46,12 +46,16 @@ abbrev ordered : tie.After-both2 → Bool
 ordered c = c .before .before .in-order .result
 
 near : (c : tie.After-both2) → Near (table c) (end c) (trace c) (j c) (name c) (time c) (some c) (ordered c)
-near c = record {
-  name-read = c .before .before .before .before .name-of .ensures;
-  time-read = c .before .before .before .before .before .time-of .ensures;
-  is-named = c .before .before .before .is-named .ensures;
-  is-ordered = c .before .before .in-order .ensures;
-}
+near c =
+    let name-of = c .before .before .before .before .name-of in
+    let time-of = c .before .before .before .before .before .time-of in
+    let is-named-here = c .before .before .before .is-named in
+    record {
+      name-read = name-of .ensures;
+      time-read = time-of .ensures;
+      is-named = is-named-here .ensures;
+      is-ordered = c .before .before .in-order .ensures;
+    }
 
 -- the tests before the last, together
 asked : (c : tie.After-both2) → c .both2 .result ≡ ((some c && ltb (time c) (end c)) && ordered c)
