@@ -14,6 +14,7 @@ use Rattle.rules.specs.declared.Job.the-variants.{Idle}
 use Rattle.rules.specs.declared.Task.{Task}
 use Rattle.rules.specs.declared.Run.{Run}
 use Rattle.rules.specs.Words.{pick, firstIn}
+use Rattle.rules.specs.Limits.{maxTasks}
 use Rattle.rules.specs.Case.{deadline}
 use Rattle.rules.specs.Policies.{demoting}
 use Rattle.rules.specs.Slot.{Setup, TaskSet, noTask, jobAt, isPresent, dueOf, present, isDemotedNow, readied, demoted, contentionFree}
@@ -74,14 +75,14 @@ openIn k t i = openedJob (demoting (k .setup .policy)) (demoting (k .setup .poli
 module _ (k : Course) where
   pub course-full : (t : ℕ) → Full (stateIn k t)
   unfolding stateIn
-  course-full zero = tab-long _ 0 32
+  course-full zero = tab-long _ 0 maxTasks
   course-full (suc t) = worked-full _ _ (opened-full _ _ _ _ (course-full t))
 
-  pub course-first : (i : ℕ) → i < 32 → jobAt (stateIn k 0) i ≡ Idle
+  pub course-first : (i : ℕ) → i < maxTasks → jobAt (stateIn k 0) i ≡ Idle
   unfolding stateIn
-  course-first i l = ap (λ (t : Task). t .job) (tab-at idleTask 32 i noTask l)
+  course-first i l = ap (λ (t : Task). t .job) (tab-at idleTask maxTasks i noTask l)
 
-  module _ (t i : ℕ) (l : i < 32) where
+  module _ (t i : ℕ) (l : i < maxTasks) where
     pub open-in : jobAt (openedIn k t) i ≡ openIn k t i
     unfolding contentionFreeIn
     open-in = opened-at i l (k .setup) t (k .released t) (stateIn k t) (course-full t)
@@ -101,7 +102,7 @@ module _ (k : Course) where
 
 -- ---- a release of the task at i at time a that is the only one of the task until that job's deadline
 pub record Sole (k : Course) (i a : ℕ) : Type 0 where
-  pub task : i < 32
+  pub task : i < maxTasks
   pub released : k .released a i ≡ true
   pub alone : (u : ℕ) → a < u → u < a + deadline (k .setup .table) i → k .released u i ≡ false
 

@@ -7,6 +7,7 @@ use native.Mathlib.Omega.{arith}
 use lib.Dec.{eqb, leb}
 use borrow.Author.Tests.{eqb-true, eqb-false, le-leb, lt-leb}
 use Rattle.rules.specs.Words.{pick}
+use Rattle.rules.specs.Limits.{maxTasks}
 use Rattle.rules.specs.Case.{Case, releaseCount, nameOf}
 use Rattle.rules.specs.Policies.{demoting}
 use Rattle.rules.specs.Slot.{isPresent, isLast, dueOf, isMissed, workedJob, missed}
@@ -57,7 +58,7 @@ noted-entry t due d false dem late h = rw (h refl) (go late)
     go false = refl
 
 -- ---- the job of task i in the slot at t
-module _ (c : Case) (t i : ℕ) (l : i < 32) where
+module _ (c : Case) (t i : ℕ) (l : i < maxTasks) where
   abbrev fin : Bool
   fin = finishedAt c t i
 

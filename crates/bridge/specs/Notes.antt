@@ -11,6 +11,7 @@ use lib.Dec.{eqb, ltb}
 use lib.ListN.{length, getD, set}
 use borrow.Author.Tests.{lt-ltb, le-ltb}
 use Rattle.rules.specs.Words.{pick, bit, sum, countIn, tab}
+use Rattle.rules.specs.Limits.{maxTasks, recordWidth}
 use Rattle.rules.specs.Case.{Case, releaseCount, nameOf}
 use Rattle.rules.specs.Replay.{finishedAt, missedAt, demotedAt, Record, recordOf, recordBy, numbers, marked}
 use Rattle.lists.specs.Lists.{tab-long, tab-at, tab-cong, tab-set}
@@ -21,12 +22,12 @@ use Rattle.bridge.specs.Turn.{lastPlace, Reached}
 
 -- ---- three numbers a record
 unfoldable pub put3 : List ℕ → ℕ → Record → List ℕ
-put3 xs p r = set (set (set xs (p * 3) (r .verdict)) (p * 3 + 1) (r .finish)) (p * 3 + 2) (r .demotion)
+put3 xs p r = set (set (set xs (p * recordWidth) (r .verdict)) (p * recordWidth + 1) (r .finish)) (p * recordWidth + 2) (r .demotion)
 
 abbrev noRecord : Record
 noRecord = recordOf 0 0 0
 
-pub numbers-long : (rs : List Record) → length (numbers rs) ≡ length rs * 3
+pub numbers-long : (rs : List Record) → length (numbers rs) ≡ length rs * recordWidth
 unfolding numbers
 numbers-long [] = refl
 numbers-long (r ∷ rs) = omega (arith, numbers-long rs)
@@ -37,35 +38,36 @@ unfolding put3 numbers
 put3-at [] p r rest h = absurd (not-suc-le-zero h)
 put3-at (x ∷ rs) zero r rest h = refl
 put3-at (x ∷ rs) (suc p) r rest h =
-    let e2 : suc p * 3 + 2 ≡ suc (suc (suc (p * 3 + 2))) = omega arith in
-    let e1 : suc p * 3 + 1 ≡ suc (suc (suc (p * 3 + 1))) = omega arith in
-    let e : suc p * 3 ≡ suc (suc (suc (p * 3))) = omega arith in
+    let e2 : suc p * recordWidth + 2 ≡ suc (suc (suc (p * recordWidth + 2))) = omega arith in
+    let e1 : suc p * recordWidth + 1 ≡ suc (suc (suc (p * recordWidth + 1))) = omega arith in
+    let e : suc p * recordWidth ≡ suc (suc (suc (p * recordWidth))) = omega arith in
     rw (e2, e1, e) (ap (λ (l : List ℕ). x .verdict ∷ x .finish ∷ x .demotion ∷ l) (put3-at rs p r rest (omega arith)))
 
 demotion-at : (rs : List Record) (p : ℕ) (rest : List ℕ) → p < length rs
-    → getD (numbers rs ++ rest) (p * 3 + 2) 0 ≡ getD rs p noRecord .demotion
+    → getD (numbers rs ++ rest) (p * recordWidth + 2) 0 ≡ getD rs p noRecord .demotion
 unfolding numbers
 demotion-at [] p rest h = absurd (not-suc-le-zero h)
 demotion-at (x ∷ rs) zero rest h = refl
 demotion-at (x ∷ rs) (suc p) rest h =
-    let e : suc p * 3 + 2 ≡ suc (suc (suc (p * 3 + 2))) = omega arith in
+    let e : suc p * recordWidth + 2 ≡ suc (suc (suc (p * recordWidth + 2))) = omega arith in
     rw e (demotion-at rs p rest (omega arith))
 
 finish-at : (rs : List Record) (p : ℕ) (rest : List ℕ) → p < length rs
-    → getD (numbers rs ++ rest) (p * 3 + 1) 0 ≡ getD rs p noRecord .finish
+    → getD (numbers rs ++ rest) (p * recordWidth + 1) 0 ≡ getD rs p noRecord .finish
 unfolding numbers
 finish-at [] p rest h = absurd (not-suc-le-zero h)
 finish-at (x ∷ rs) zero rest h = refl
 finish-at (x ∷ rs) (suc p) rest h =
-    let e : suc p * 3 + 1 ≡ suc (suc (suc (p * 3 + 1))) = omega arith in
+    let e : suc p * recordWidth + 1 ≡ suc (suc (suc (p * recordWidth + 1))) = omega arith in
     rw e (finish-at rs p rest (omega arith))
 
-verdict-at : (rs : List Record) (p : ℕ) (rest : List ℕ) → p < length rs → getD (numbers rs ++ rest) (p * 3) 0 ≡ getD rs p noRecord .verdict
+verdict-at : (rs : List Record) (p : ℕ) (rest : List ℕ) → p < length rs
+    → getD (numbers rs ++ rest) (p * recordWidth) 0 ≡ getD rs p noRecord .verdict
 unfolding numbers
 verdict-at [] p rest h = absurd (not-suc-le-zero h)
 verdict-at (x ∷ rs) zero rest h = refl
 verdict-at (x ∷ rs) (suc p) rest h =
-    let e : suc p * 3 ≡ suc (suc (suc (p * 3))) = omega arith in
+    let e : suc p * recordWidth ≡ suc (suc (suc (p * recordWidth))) = omega arith in
     rw e (verdict-at rs p rest (omega arith))
 
 -- the three numbers of release j in a room that holds the records of a case
@@ -76,13 +78,13 @@ module _ (f : ℕ → Record) (n : ℕ) (rest : List ℕ) (j : ℕ) (h : j < n) 
   long : j < length (tab f 0 n)
   long = rw (tab-long f 0 n) h
 
-  pub held-verdict : getD (numbers (tab f 0 n) ++ rest) (j * 3) 0 ≡ f j .verdict
+  pub held-verdict : getD (numbers (tab f 0 n) ++ rest) (j * recordWidth) 0 ≡ f j .verdict
   held-verdict = verdict-at (tab f 0 n) j rest long ∙ ap (λ (r : Record). r .verdict) held
 
-  pub held-finish : getD (numbers (tab f 0 n) ++ rest) (j * 3 + 1) 0 ≡ f j .finish
+  pub held-finish : getD (numbers (tab f 0 n) ++ rest) (j * recordWidth + 1) 0 ≡ f j .finish
   held-finish = finish-at (tab f 0 n) j rest long ∙ ap (λ (r : Record). r .finish) held
 
-  pub held-demotion : getD (numbers (tab f 0 n) ++ rest) (j * 3 + 2) 0 ≡ f j .demotion
+  pub held-demotion : getD (numbers (tab f 0 n) ++ rest) (j * recordWidth + 2) 0 ≡ f j .demotion
   held-demotion = demotion-at (tab f 0 n) j rest long ∙ ap (λ (r : Record). r .demotion) held
 
 -- ---- what one slot stores, task by task: the sets that finished, were demoted and are late
@@ -93,7 +95,7 @@ unfoldable pub noteOne : ℕ → List ℕ → List Bool → List Bool → List B
 noteOne t place fin dem late i xs =
     pick (eventAt fin dem late i)
     (put3 xs (getD place i 0)
-    (entry t (getD fin i false) (getD dem i false) (getD late i false) (getD xs (getD place i 0 * 3 + 2) 0))) xs
+    (entry t (getD fin i false) (getD dem i false) (getD late i false) (getD xs (getD place i 0 * recordWidth + 2) 0))) xs
 
 unfoldable pub noteTo : ℕ → List ℕ → List Bool → List Bool → List Bool → ℕ → List ℕ → List ℕ
 noteTo t place fin dem late zero xs = xs
@@ -109,10 +111,10 @@ noted-none t place fin dem late (suc n) xs h = rw (h n (omega arith)) (noted-non
 
 -- what is handed to the stores is what the slot of the case has
 pub record Handed (c : Case) (t k : ℕ) (place : List ℕ) (fin dem late : List Bool) : Type 0 where
-  pub at-place : (i : ℕ) → i < 32 → getD place i 0 ≡ lastPlace (c .trace) k (suc i)
-  pub at-fin : (i : ℕ) → i < 32 → getD fin i false ≡ finishedAt c t i
-  pub at-dem : (i : ℕ) → i < 32 → getD dem i false ≡ demotedAt c t i
-  pub at-late : (i : ℕ) → i < 32 → getD late i false ≡ missedAt c (suc t) i
+  pub at-place : (i : ℕ) → i < maxTasks → getD place i 0 ≡ lastPlace (c .trace) k (suc i)
+  pub at-fin : (i : ℕ) → i < maxTasks → getD fin i false ≡ finishedAt c t i
+  pub at-dem : (i : ℕ) → i < maxTasks → getD dem i false ≡ demotedAt c t i
+  pub at-late : (i : ℕ) → i < maxTasks → getD late i false ≡ missedAt c (suc t) i
 
 module _ (c : Case) (g : Legal c) (t k : ℕ) (w : Reached (c .trace) k (suc t)) (place : List ℕ) (fin dem late : List Bool)
     (o : Handed c t k place fin dem late) (rest : List ℕ) where
@@ -138,7 +140,8 @@ module _ (c : Case) (g : Legal c) (t k : ℕ) (w : Reached (c .trace) k (suc t))
       go (no a) (yes b) = mixed-old i j (omega arith) ∙ sym (h (omega arith)) ∙ sym (mixed-new (suc i) j b)
       go (no a) (no b) = mixed-old i j (omega arith) ∙ sym (mixed-old (suc i) j (omega arith))
 
-  one : (i : ℕ) → i < 32 → noteOne t place fin dem late i (numbers (tab (mixed i) 0 n) ++ rest) ≡ numbers (tab (mixed (suc i)) 0 n) ++ rest
+  one : (i : ℕ) → i < maxTasks
+      → noteOne t place fin dem late i (numbers (tab (mixed i) 0 n) ++ rest) ≡ numbers (tab (mixed (suc i)) 0 n) ++ rest
   unfolding noteOne
   one i h =
       rw (o .at-place i h, o .at-fin i h, o .at-dem i h, o .at-late i h)
@@ -151,7 +154,8 @@ module _ (c : Case) (g : Legal c) (t k : ℕ) (w : Reached (c .trace) k (suc t))
           → pick b
           (put3 (numbers (tab (mixed i) 0 n) ++ rest) (lastPlace (c .trace) k (suc i))
           (entry t (finishedAt c t i) (demotedAt c t i) (missedAt c (suc t) i)
-          (getD (numbers (tab (mixed i) 0 n) ++ rest) (lastPlace (c .trace) k (suc i) * 3 + 2) 0))) (numbers (tab (mixed i) 0 n) ++ rest)
+          (getD (numbers (tab (mixed i) 0 n) ++ rest) (lastPlace (c .trace) k (suc i) * recordWidth + 2) 0)))
+          (numbers (tab (mixed i) 0 n) ++ rest)
           ≡ numbers (tab (mixed (suc i)) 0 n) ++ rest
       go false e =
           ap (λ (l : List Record). numbers l ++ rest)
@@ -165,26 +169,29 @@ module _ (c : Case) (g : Legal c) (t k : ℕ) (w : Reached (c .trace) k (suc t))
           sym (v .new) ∙ sym (mixed-new (suc i) p (omega (arith, v .its)))
           in
           let xs = numbers (tab (mixed i) 0 n) ++ rest in
-          let d : getD xs (p * 3 + 2) 0 ≡ recordBy c t p .demotion =
+          let d : getD xs (p * recordWidth + 2) 0 ≡ recordBy c t p .demotion =
           demotion-at (tab (mixed i) 0 n) p rest long ∙ ap (λ (r : Record). r .demotion) old in
           ap (λ (x : ℕ). put3 xs p (entry t (finishedAt c t i) (demotedAt c t i) (missedAt c (suc t) i) x)) d ∙
           ap (put3 xs p) new ∙ put3-at (tab (mixed i) 0 n) p (mixed (suc i) p) rest long ∙
           ap (λ (l : List Record). numbers l ++ rest) (tab-set (mixed i) (mixed (suc i)) n p (v .within)
           (λ j x y. mixed-more i j (λ q. v .others j x q y)))
 
-  all-to : (i : ℕ) → i ≤ 32 → noteTo t place fin dem late i (numbers (tab (mixed 0) 0 n) ++ rest) ≡ numbers (tab (mixed i) 0 n) ++ rest
+  all-to : (i : ℕ) → i ≤ maxTasks
+      → noteTo t place fin dem late i (numbers (tab (mixed 0) 0 n) ++ rest) ≡ numbers (tab (mixed i) 0 n) ++ rest
   unfolding noteTo
   all-to zero h = refl
   all-to (suc i) h = ap (noteOne t place fin dem late i) (all-to i (omega arith)) ∙ one i (omega arith)
 
   -- the stores of the slot at t bring the records as they stand at t to those as they stand at t + 1
-  pub noted-all : noteTo t place fin dem late 32 (numbers (tab (recordBy c t) 0 n) ++ rest) ≡ numbers (tab (recordBy c (suc t)) 0 n) ++ rest
+  pub noted-all : noteTo t place fin dem late maxTasks (numbers (tab (recordBy c t) 0 n) ++ rest)
+      ≡ numbers (tab (recordBy c (suc t)) 0 n) ++ rest
   noted-all =
-      ap (λ (l : List Record). noteTo t place fin dem late 32 (numbers l ++ rest))
+      ap (λ (l : List Record). noteTo t place fin dem late maxTasks (numbers l ++ rest))
       (tab-cong (recordBy c t) (mixed 0) 0 n (λ j x y. sym (mixed-old 0 j (omega (arith, g .named j (omega arith)))))) ∙
-      all-to 32 (omega arith) ∙
+      all-to maxTasks (omega arith) ∙
       ap (λ (l : List Record). numbers l ++ rest)
-      (tab-cong (mixed 32) (recordBy c (suc t)) 0 n (λ j x y. mixed-new 32 j (omega (arith, g .named j (omega arith), g .tasks-few))))
+      (tab-cong (mixed maxTasks) (recordBy c (suc t)) 0 n
+      (λ j x y. mixed-new maxTasks j (omega (arith, g .named j (omega arith), g .tasks-few))))
 
 -- ---- totals read off the room
 sum-head : (f : ℕ → ℕ) (l : ℕ) → sum f 0 (suc l) ≡ f 0 + sum (λ t. f (suc t)) 0 l
@@ -192,13 +199,13 @@ unfolding sum
 sum-head f zero = omega arith
 sum-head f (suc l) = rw (zero-add (suc l), zero-add l) (omega (arith, zero-add l, sum-head f l, ap f (zero-add l)))
 
-pub marked-in : (v : ℕ) (rs : List Record) (rest : List ℕ) → countIn (λ j. eqb (getD (numbers rs ++ rest) (j * 3) 0) v) 0 (length rs)
-    ≡ marked v rs
+pub marked-in : (v : ℕ) (rs : List Record) (rest : List ℕ)
+    → countIn (λ j. eqb (getD (numbers rs ++ rest) (j * recordWidth) 0) v) 0 (length rs) ≡ marked v rs
 unfolding numbers marked sum
 marked-in v [] rest = refl
 marked-in v (x ∷ rs) rest =
-    sum-head (λ j. bit (eqb (getD (numbers (x ∷ rs) ++ rest) (j * 3) 0) v)) (length rs) ∙
+    sum-head (λ j. bit (eqb (getD (numbers (x ∷ rs) ++ rest) (j * recordWidth) 0) v)) (length rs) ∙
     ap (λ (z : ℕ). bit (eqb (x .verdict) v) + z)
-    (sum-cong (λ j. bit (eqb (getD (numbers (x ∷ rs) ++ rest) (suc j * 3) 0) v))
-    (λ j. bit (eqb (getD (numbers rs ++ rest) (j * 3) 0) v)) 0 (length rs)
-    (λ j p q. let e : suc j * 3 ≡ suc (suc (suc (j * 3))) = omega arith in rw e) ∙ marked-in v rs rest)
+    (sum-cong (λ j. bit (eqb (getD (numbers (x ∷ rs) ++ rest) (suc j * recordWidth) 0) v))
+    (λ j. bit (eqb (getD (numbers rs ++ rest) (j * recordWidth) 0) v)) 0 (length rs)
+    (λ j p q. let e : suc j * recordWidth ≡ suc (suc (suc (j * recordWidth))) = omega arith in rw e) ∙ marked-in v rs rest)

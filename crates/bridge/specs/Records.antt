@@ -11,6 +11,7 @@ use native.Mathlib.Omega.{arith}
 use lib.Dec.{eqb, leb}
 use borrow.Author.Tests.{eqb-true, eq-eqb, le-leb, lt-leb}
 use Rattle.rules.specs.Words.{pick, orElse, firstIn}
+use Rattle.rules.specs.Limits.{maxTasks}
 use Rattle.rules.specs.Case.{Case, period, execution, deadline, releaseCount, timeOf, nameOf}
 use Rattle.rules.specs.Policies.{demoting}
 use Rattle.rules.specs.Slot.{jobAt, isPresent, isDemoted, dueOf, isDemotedNow}
@@ -85,7 +86,7 @@ module _ (c : Case) (g : Legal c) where
               omega (arith, g .separate j k x l same, ap (λ (v : ℕ). period (c .table) (v - 1)) same)
 
 -- ---- when a task is idle
-module _ (c : Case) (i : ℕ) (l : i < 32) where
+module _ (c : Case) (i : ℕ) (l : i < maxTasks) where
   -- a slot that finds no job after steps 1 and 2 leaves none
   idle-next : (t : ℕ) → readyAt c t i ≡ Idle → jobAt (stateAt c (suc t)) i ≡ Idle
   idle-next t e =
@@ -105,7 +106,7 @@ module _ (c : Case) (i : ℕ) (l : i < 32) where
 
   pub at-first : jobAt (stateAt c 0) i ≡ Idle
   unfolding stateAt stateFrom
-  at-first = ap (λ (t : Task). t .job) (tab-at idleTask 32 i (record { number = 0; last = 0; job = Idle }) l)
+  at-first = ap (λ (t : Task). t .job) (tab-at idleTask maxTasks i (record { number = 0; last = 0; job = Idle }) l)
 
   pub never-released : (t : ℕ) → ((u : ℕ) → u ≤ t → releasedAt c u i ≡ false) → readyAt c t i ≡ Idle
   never-released t h =

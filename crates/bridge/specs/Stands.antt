@@ -6,6 +6,7 @@ use mathlib.Core.Bool.{Bool, true, false, _&&_}
 use Prim.Native.Nat.{ℕ, zero, suc, _+_, _-_, _<_}
 use native.Mathlib.Nat.{add-zero, add-suc, zero-add, add-assoc}
 use Rattle.rules.specs.Words.{pick, firstIn}
+use Rattle.rules.specs.Limits.{maxTasks}
 use Rattle.rules.specs.Case.{Case, deadline}
 use Rattle.rules.specs.Policies.{demoting}
 use Rattle.rules.specs.Slot.{Setup, TaskSet, jobAt, isPresent, isLast, present, isDemotedNow, opened, chosen, worked, workedJob, after, ran}
@@ -25,7 +26,7 @@ state-next c t = rw (zero-add t)
 
 pub state-full : (c : Case) (t : ℕ) → Full (stateAt c t)
 unfolding stateAt stateFrom
-state-full c zero = tab-long _ 0 32
+state-full c zero = tab-long _ 0 maxTasks
 state-full c (suc t) = after-full _ _ _ _ (state-full c t)
 
 -- ---- shorthands at time t
@@ -35,7 +36,7 @@ readyAt c t i = readiedJob (setupIn c) t (releasedAt c t) (stateAt c t) i
 abbrev pub openAt : Case → ℕ → ℕ → Job
 openAt c t i = openedJob (demoting (c .policy)) (lowers (setupIn c) t (releasedAt c t) (stateAt c t)) (readyAt c t i)
 
-module _ (c : Case) (i : ℕ) (l : i < 32) (t : ℕ) where
+module _ (c : Case) (i : ℕ) (l : i < maxTasks) (t : ℕ) where
   pub open-at : jobAt (opened (setupIn c) t (releasedAt c t) (stateAt c t)) i ≡ openAt c t i
   open-at = opened-at i l (setupIn c) t (releasedAt c t) (stateAt c t) (state-full c t)
 

@@ -6,6 +6,7 @@ use Prim.Native.Nat.{ℕ, _-_, _<_}
 use native.Mathlib.Omega.{arith}
 use lib.ListN.{length, getD}
 use Rattle.rules.specs.Words.{pick}
+use Rattle.rules.specs.Limits.{maxTasks}
 use Rattle.rules.specs.Policies.{demoting}
 use Rattle.rules.specs.Slot.{Setup, TaskSet, noTask, withJob, jobAt, leftOf, dueOf, eachTask, isMissed, judgedTask, judged, releasedJob}
 use Rattle.rules.specs.Slot.{releasedTask, joinedTask, joined, isDemotedNow, demotedTask, demoted, contentionFree, loweredJob, loweredTask}
@@ -17,7 +18,7 @@ use Rattle.rules.specs.declared.Run.{Run}
 use Rattle.lists.specs.Lists.{mapFrom-long, mapAt-at}
 
 abbrev pub Full : Run → Type 0
-Full r = length (r .tasks) ≡ 32
+Full r = length (r .tasks) ≡ maxTasks
 
 -- ---- a run stays full
 pub each-full : (f : ℕ → Task → Task) (r : Run) → Full r → Full (eachTask f r)
@@ -93,7 +94,7 @@ pick-and : {A : Type 0} (a b : Bool) (x y : A) → pick a (pick b x y) y ≡ pic
 pick-and true b x y = refl
 pick-and false b x y = refl
 
-module _ (i : ℕ) (l : i < 32) where
+module _ (i : ℕ) (l : i < maxTasks) where
   each-at : (f : ℕ → Task → Task) (r : Run) → Full r → getD (eachTask f r .tasks) i noTask ≡ f i (getD (r .tasks) i noTask)
   each-at f r h = mapAt-at f (r .tasks) i noTask (omega arith)
 

@@ -11,6 +11,7 @@ use native.Mathlib.Omega.{arith}
 use lib.Dec.{eqb}
 use borrow.Author.Tests.{eqb-true, eqb-false}
 use Rattle.rules.specs.Words.{pick}
+use Rattle.rules.specs.Limits.{maxTasks}
 use Rattle.rules.specs.Case.{Case, period, deadline, releaseCount, timeOf, nameOf}
 use Rattle.rules.specs.Policies.{demoting}
 use Rattle.rules.specs.Slot.{isPresent, dueOf}
@@ -84,7 +85,7 @@ module _ (c : Case) (g : Legal c) (t k : ℕ) (w : Reached (c .trace) k (suc t))
           let z : a + (t - a) ≡ t = omega arith in
           rw z at (absent-at c (taskAt c j) a (sole c g j h) pos (t - a) (omega arith) (rw z (f (omega arith) (omega arith))))
 
-  module _ (i : ℕ) (l : i < 32) where
+  module _ (i : ℕ) (l : i < maxTasks) where
     -- of a task that is not there no record changes
     pub turn-idle : isPresent (openAt c t i) ≡ false → (j : ℕ) → j < releaseCount (c .trace) → nameOf (c .trace) j ≡ suc i
         → recordBy c (suc t) j ≡ recordBy c t j

@@ -6,6 +6,7 @@ use native.Mathlib.Omega.{arith}
 use lib.Dec.{eqb}
 use lib.ListN.{length, getD, drop, length-append}
 use Rattle.rules.specs.Words.{countIn}
+use Rattle.rules.specs.Limits.{recordWidth}
 use Rattle.rules.specs.Case.{Case, releaseCount}
 use Rattle.rules.specs.Replay.{records, recordBy, numbers, marked}
 use Rattle.rules.specs.Calls.{roomAfter}
@@ -13,19 +14,19 @@ use Rattle.lists.specs.Lists.{tab-long}
 use Rattle.bridge.specs.Notes.{numbers-long, marked-in}
 
 module _ (c : Case) (room out : List ℕ) (o : out ≡ roomAfter c room) where
-  pub still-fits : releaseCount (c .trace) * 3 ≤ length out
+  pub still-fits : releaseCount (c .trace) * recordWidth ≤ length out
   unfolding roomAfter
   still-fits =
-      let a = ap length o ∙ length-append (numbers (records c)) (drop (releaseCount (c .trace) * 3) room) in
+      let a = ap length o ∙ length-append (numbers (records c)) (drop (releaseCount (c .trace) * recordWidth) room) in
       omega (arith, a, numbers-long (records c), tab-long (recordBy c (c .end)) 0 (releaseCount (c .trace)))
 
-  pub total : (v m : ℕ) → m ≡ countIn (λ j. eqb (getD out (j * 3) 0) v) 0 (releaseCount (c .trace)) → m ≡ marked v (records c)
+  pub total : (v m : ℕ) → m ≡ countIn (λ j. eqb (getD out (j * recordWidth) 0) v) 0 (releaseCount (c .trace)) → m ≡ marked v (records c)
   unfolding roomAfter
   total v m h =
-      h ∙ ap (λ (l : List ℕ). countIn (λ j. eqb (getD l (j * 3) 0) v) 0 (releaseCount (c .trace))) o ∙
-      ap (countIn (λ j. eqb (getD (numbers (records c) ++ drop (releaseCount (c .trace) * 3) room) (j * 3) 0) v) 0)
+      h ∙ ap (λ (l : List ℕ). countIn (λ j. eqb (getD l (j * recordWidth) 0) v) 0 (releaseCount (c .trace))) o ∙
+      ap (countIn (λ j. eqb (getD (numbers (records c) ++ drop (releaseCount (c .trace) * recordWidth) room) (j * recordWidth) 0) v) 0)
       (sym (tab-long (recordBy c (c .end)) 0 (releaseCount (c .trace)))) ∙
-      marked-in v (records c) (drop (releaseCount (c .trace) * 3) room)
+      marked-in v (records c) (drop (releaseCount (c .trace) * recordWidth) room)
 
 -- three results that are the totals
 pub totals : (a b d x y z : ℕ) → a ≡ x → b ≡ y → d ≡ z → _≡_ {A = List ℕ} (a ∷ b ∷ d ∷ []) (x ∷ y ∷ z ∷ [])

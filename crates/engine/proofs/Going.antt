@@ -12,6 +12,7 @@ use lib.Seq.{drop-at}
 use borrow.Author.Tests.{lt-leb, eqb-true}
 use Rattle.rules.specs.declared.Run.{Run}
 use Rattle.rules.specs.Words.{tab, firstIn}
+use Rattle.rules.specs.Limits.{maxTasks, recordWidth}
 use Rattle.rules.specs.Case.{Case, taskCount, deadline, releaseCount, timeOf, nameOf}
 use Rattle.rules.specs.Policies.{demoting}
 use Rattle.rules.specs.Slot.{TaskSet, Setup, jobAt, isMissed, isDemotedNow, judged, joinedTask, joined, readied, demoted, lowered, opened}
@@ -37,7 +38,7 @@ pub orderly : (c : Case) → Legal c → Orderly (c .trace)
 orderly c g = record { named = λ j h. (g .named j h .0, omega (arith, g .named j h .1, g .tasks-few)); sorted = g .in-order }
 
 -- ---- before the first slot
-pub walking-none : (c : Case) (run : Run) → run ≡ fresh → Walking c 0 run (tab (λ i. 0) 0 32) 0 0
+pub walking-none : (c : Case) (run : Run) → run ≡ fresh → Walking c 0 run (tab (λ i. 0) 0 maxTasks) 0 0
 unfolding stateAt stateFrom lastPlace
 walking-none c run e = record {
   at-run = e;
@@ -51,12 +52,12 @@ pub last-none : (c : Case) (rs : List Bool) → LastRan c 0 rs
 last-none c rs t e = absurd (omega (arith, e))
 
 -- the set of the slot at t is the set of the last slot before t + 1
-pub last-ran : (c : Case) (t : ℕ) (rs : List Bool) → rs ≡ tab (ranAt c t) 0 32 → LastRan c (suc t) rs
+pub last-ran : (c : Case) (t : ℕ) (rs : List Bool) → rs ≡ tab (ranAt c t) 0 maxTasks → LastRan c (suc t) rs
 last-ran c t rs h k e = let z : t ≡ k = omega (arith, e) in rw (← z) h
 
 -- ---- one slot
 -- a slot goes by its set's members below 32 only
-module _ (g : Setup) (now : ℕ) (s u : TaskSet) (r : Run) (f : Full r) (h : (i : ℕ) → i < 32 → s i ≡ u i) where
+module _ (g : Setup) (now : ℕ) (s u : TaskSet) (r : Run) (f : Full r) (h : (i : ℕ) → i < maxTasks → s i ≡ u i) where
   readied-same : readied g now s r ≡ readied g now u r
   unfolding joined
   readied-same =
@@ -90,16 +91,16 @@ module _ (g : Setup) (now : ℕ) (s u : TaskSet) (r : Run) (f : Full r) (h : (i 
     run = q .run ∙ after-same;
     jobs = q .jobs ∙ ap (λ (x : Run). jobsNow (demoted g x)) readied-same;
     missed = q .missed;
-    demoted = q .demoted ∙ tab-cong _ _ 0 32 (λ i x y. demoted-same i);
-    ran = q .ran ∙ tab-cong _ _ 0 32 (λ i x y. ran-same i);
-    finished = q .finished ∙ tab-cong _ _ 0 32 (λ i x y. finished-same i);
+    demoted = q .demoted ∙ tab-cong _ _ 0 maxTasks (λ i x y. demoted-same i);
+    ran = q .ran ∙ tab-cong _ _ 0 maxTasks (λ i x y. ran-same i);
+    finished = q .finished ∙ tab-cong _ _ 0 maxTasks (λ i x y. finished-same i);
     missed-next = q .missed-next;
   }
 
 module _ (c : Case) (g : Legal c) (clock : ℕ) (more : clock < c .end) (rel : List Bool)
     (re : rel ≡ releases (c .trace) (releaseCount (c .trace)) clock) where
-  rel-at : (i : ℕ) → i < 32 → getD rel i false ≡ releasedAt c clock i
-  rel-at i h = rw re (tab-at (releasedIn (c .trace) (releaseCount (c .trace)) clock) 32 i false h)
+  rel-at : (i : ℕ) → i < maxTasks → getD rel i false ≡ releasedAt c clock i
+  rel-at i h = rw re (tab-at (releasedIn (c .trace) (releaseCount (c .trace)) clock) maxTasks i false h)
 
   -- what the slot is asked for is there
   some-release : (rs : List ℕ) (n t i : ℕ) → ((j : ℕ) → j < n → nameOf rs j ≤ taskCount (c .table)) → releasedIn rs n t i ≡ true
@@ -117,13 +118,13 @@ module _ (c : Case) (g : Legal c) (clock : ℕ) (more : clock < c .end) (rel : L
           named false x = absurd (false≢true x)
 
   in-table : (i : ℕ) → getD rel i false ≡ true → i < taskCount (c .table)
-  in-table i e = go (decLt i 32)
+  in-table i e = go (decLt i maxTasks)
     where
-      go : Dec (i < 32) → i < taskCount (c .table)
+      go : Dec (i < maxTasks) → i < taskCount (c .table)
       go (yes h) = some-release (c .trace) (releaseCount (c .trace)) clock i (λ j l. g .named j l .1) (sym (rel-at i h) ∙ e)
       go (no h) =
-          absurd (false≢true (sym (List·getD-eq-default rel false {n =
-          i} (rw (re, tab-long (releasedIn (c .trace) (releaseCount (c .trace)) clock) 0 32) (omega arith))) ∙ e))
+          let long : length rel ≡ maxTasks = rw re (tab-long (releasedIn (c .trace) (releaseCount (c .trace)) clock) 0 maxTasks) in
+          absurd (false≢true (sym (List·getD-eq-default rel false {n = i} (omega arith)) ∙ e))
 
   pub needed : (counts : List ℕ) → Counts (c .procs) (c .table) counts → Needed (c .procs) clock (c .table) counts rel
   needed counts q = record {
@@ -157,10 +158,11 @@ module _ (c : Case) (g : Legal c) (clock : ℕ) (more : clock < c .end) (rel : L
     pub handed : (place : List ℕ) (next : ℕ) → place ≡ places (c .trace) next → Handed c clock next place fs ds ls
     unfolding finishedAt demotedAt missedAt missed
     handed place next p = record {
-      at-place = λ i h. rw p (tab-at (λ i. lastPlace (c .trace) next (suc i)) 32 i 0 h);
-      at-fin = λ i h. rw (same-step .finished) (tab-at _ 32 i false h);
-      at-dem = λ i h. rw (same-step .demoted) (tab-at _ 32 i false h);
-      at-late = λ i h. rw (same-step .missed-next) (tab-at _ 32 i false h) ∙ ap (λ (r : Run). isMissed (suc clock) (jobAt r i)) next-run;
+      at-place = λ i h. rw p (tab-at (λ i. lastPlace (c .trace) next (suc i)) maxTasks i 0 h);
+      at-fin = λ i h. rw (same-step .finished) (tab-at _ maxTasks i false h);
+      at-dem = λ i h. rw (same-step .demoted) (tab-at _ maxTasks i false h);
+      at-late = λ i h. rw (same-step .missed-next) (tab-at _ maxTasks i false h)
+          ∙ ap (λ (r : Run). isMissed (suc clock) (jobAt r i)) next-run;
     }
 
 -- ---- the records
@@ -174,46 +176,47 @@ open-at-0 c g j h =
     lt-leb (timeOf (c .trace) j + deadline (c .table) (taskAt c j)) 0 (omega (arith, m .some, m .fits)) in
     rw (z, l)
 
-records-long : (c : Case) (t : ℕ) → length (numbers (tab (recordBy c t) 0 (releaseCount (c .trace)))) ≡ releaseCount (c .trace) * 3
+records-long : (c : Case) (t : ℕ)
+    → length (numbers (tab (recordBy c t) 0 (releaseCount (c .trace)))) ≡ releaseCount (c .trace) * recordWidth
 records-long c t =
     numbers-long (tab (recordBy c t) 0 (releaseCount (c .trace)))
-    ∙ ap (λ (k : ℕ). k * 3) (tab-long (recordBy c t) 0 (releaseCount (c .trace)))
+    ∙ ap (λ (k : ℕ). k * recordWidth) (tab-long (recordBy c t) 0 (releaseCount (c .trace)))
 
 -- what is past the records stays, so that the records of any time go into the same room
 pub same-room : (c : Case) (t u : ℕ) (xs out : List ℕ) → out ≡ roomAt c t xs → roomAt c u out ≡ roomAt c u xs
 same-room c t u xs out e =
     ap (λ l. numbers (tab (recordBy c u) 0 (releaseCount (c .trace))) ++ l)
-    (rw e (drop-at (numbers (tab (recordBy c t) 0 (releaseCount (c .trace)))) (drop (releaseCount (c .trace) * 3) xs)
-    (releaseCount (c .trace) * 3) (records-long c t)))
+    (rw e (drop-at (numbers (tab (recordBy c t) 0 (releaseCount (c .trace)))) (drop (releaseCount (c .trace) * recordWidth) xs)
+    (releaseCount (c .trace) * recordWidth) (records-long c t)))
 
 -- the room that holds the open records holds those of time 0
-pub room-open : (c : Case) → Legal c → (xs out : List ℕ) → out ≡ numbers (tab (λ j. openRecord) 0 (releaseCount (c .trace)))
-    ++ drop (releaseCount (c .trace) * 3) xs
+pub room-open : (c : Case) → Legal c → (xs out : List ℕ)
+    → out ≡ numbers (tab (λ j. openRecord) 0 (releaseCount (c .trace))) ++ drop (releaseCount (c .trace) * recordWidth) xs
     → out ≡ roomAt c 0 xs
 room-open c g xs out e =
-    e ∙ ap (λ l. numbers l ++ drop (releaseCount (c .trace) * 3) xs)
+    e ∙ ap (λ l. numbers l ++ drop (releaseCount (c .trace) * recordWidth) xs)
     (tab-cong (λ j. openRecord) (recordBy c 0) 0 _ (λ j p q. sym (open-at-0 c g j (omega arith))))
 
-module _ (c : Case) (g : Legal c) (clock : ℕ) (out : List ℕ) (e : out ≡ roomAt c clock out) (next : ℕ)
-    (w : Reached (c .trace) next (suc clock))
+module _ (c : Case) (g : Legal c) (clock : ℕ) (out : List ℕ) (e : out ≡ roomAt c clock out)
+    (next : ℕ) (w : Reached (c .trace) next (suc clock))
     (place : List ℕ) (fs ds ls : List Bool) (o : Handed c clock next place fs ds ls) where
   pub roomy : Roomy place fs ds ls (length out)
   roomy i h x =
       let l = turn-event c clock i h g next w (rw (o .at-fin i h, o .at-dem i h, o .at-late i h) at x) in
       let a = ap length e ∙ length-append (numbers (tab (recordBy c clock) 0 (releaseCount (c .trace))))
-      (drop (releaseCount (c .trace) * 3) out) in
+      (drop (releaseCount (c .trace) * recordWidth) out) in
       rw (o .at-place i h) (omega (arith, l .within, a, records-long c clock))
 
   -- what is noted of the slot brings the records to the next time
-  pub room-next : (out′ : List ℕ) → out′ ≡ noteTo clock place fs ds ls 32 out → out′ ≡ roomAt c (suc clock) out
-  room-next out′ n = n ∙ ap (noteTo clock place fs ds ls 32) e
-      ∙ noted-all c g clock next w place fs ds ls o (drop (releaseCount (c .trace) * 3) out)
+  pub room-next : (out′ : List ℕ) → out′ ≡ noteTo clock place fs ds ls maxTasks out → out′ ≡ roomAt c (suc clock) out
+  room-next out′ n = n ∙ ap (noteTo clock place fs ds ls maxTasks) e
+      ∙ noted-all c g clock next w place fs ds ls o (drop (releaseCount (c .trace) * recordWidth) out)
 
 -- a slot that rests changes no record
-pub room-still : (c : Case) (g : Legal c) (clock : ℕ) (run : Run) (place : List ℕ) (next jobs : ℕ) → Walking c clock run place next jobs
-    → Rests (c .trace) next jobs clock → (xs : List ℕ) → roomAt c clock xs ≡ roomAt c (suc clock) xs
+pub room-still : (c : Case) (g : Legal c) (clock : ℕ) (run : Run) (place : List ℕ) (next jobs : ℕ)
+    → Walking c clock run place next jobs → Rests (c .trace) next jobs clock → (xs : List ℕ) → roomAt c clock xs ≡ roomAt c (suc clock) xs
 room-still c g clock run place next jobs v r xs =
-    ap (λ l. numbers l ++ drop (releaseCount (c .trace) * 3) xs)
+    ap (λ l. numbers l ++ drop (releaseCount (c .trace) * recordWidth) xs)
     (tab-cong (recordBy c clock) (recordBy c (suc clock)) 0 _
     (λ j p q. sym (still-records c g clock run place next jobs v r j (omega arith))))
 
@@ -227,9 +230,8 @@ pub record Going (c : Case) (until : ℕ) (noting : Bool) (xs : List ℕ) (clock
   pub long : length out ≡ length xs
   pub noted : noting ≡ true → out ≡ roomAt c clock xs
 
-module _ (c : Case) (until : ℕ) (noting : Bool) (xs : List ℕ) (clock : ℕ) (run : Run) (place : List ℕ) (next jobs : ℕ) (rs : List Bool)
-    (out : List ℕ)
-    (v : Going c until noting xs clock run place next jobs rs out) where
+module _ (c : Case) (until : ℕ) (noting : Bool) (xs : List ℕ) (clock : ℕ) (run : Run) (place : List ℕ) (next jobs : ℕ)
+    (rs : List Bool) (out : List ℕ) (v : Going c until noting xs clock run place next jobs rs out) where
   -- the room as it is holds the records
   pub noted-here : noting ≡ true → out ≡ roomAt c clock out
   noted-here z = v .noted z ∙ sym (same-room c clock clock xs out (v .noted z))
@@ -250,11 +252,11 @@ module _ (c : Case) (until : ℕ) (noting : Bool) (xs : List ℕ) (clock : ℕ) 
 
     -- a slot that rests is passed over, and none runs in it
     pub going-on : Legal c → Rests (c .trace) next jobs clock
-        → Going c until noting xs (clock + 1) run place next jobs (tab (λ i. false) 0 32) out
+        → Going c until noting xs (clock + 1) run place next jobs (tab (λ i. false) 0 maxTasks) out
     going-on g r = rw (add-one clock) (record {
       within = omega arith;
       walks = still-walking c g clock run place next jobs (v .walks) r;
-      ran = last-ran c clock (tab (λ i. false) 0 32) (still-ran c g clock run place next jobs (v .walks) r);
+      ran = last-ran c clock (tab (λ i. false) 0 maxTasks) (still-ran c g clock run place next jobs (v .walks) r);
       long = v .long;
       noted = λ z. v .noted z ∙ room-still c g clock run place next jobs (v .walks) r xs;
     })

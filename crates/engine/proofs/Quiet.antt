@@ -12,6 +12,7 @@ use Rattle.rules.specs.declared.Job.the-variants.{Idle}
 use Rattle.rules.specs.declared.Task.{Task}
 use Rattle.rules.specs.declared.Run.{Run}
 use Rattle.rules.specs.Words.{pick, bit, sum, countIn, tab}
+use Rattle.rules.specs.Limits.{maxTasks}
 use Rattle.rules.specs.Case.{Case, releaseCount, timeOf}
 use Rattle.rules.specs.Policies.{demoting}
 use Rattle.rules.specs.Slot.{Setup, TaskSet, noTask, runOf, withJob, jobAt, isPresent, present, eachTask, judged, joined, demotedTask}
@@ -40,12 +41,12 @@ none-counted p (suc n) i e h = go (λ l. none-counted p n i (omega arith) l) (eq
 
 -- ---- a run of idle tasks
 -- a change that leaves each task as it is leaves the run
-still : (f : ℕ → Task → Task) (r : Run) → Full r → ((i : ℕ) → i < 32 → f i (getD (r .tasks) i noTask) ≡ getD (r .tasks) i noTask)
+still : (f : ℕ → Task → Task) (r : Run) → Full r → ((i : ℕ) → i < maxTasks → f i (getD (r .tasks) i noTask) ≡ getD (r .tasks) i noTask)
     → eachTask f r ≡ r
 still f r full h = ap runOf (same-each f (λ i t. t) (r .tasks) noTask (λ i l. h i (omega arith)) ∙ keep-all (r .tasks))
 
-module _ (g : Setup) (now : ℕ) (s : TaskSet) (r : Run) (full : Full r) (none : (i : ℕ) → i < 32 → s i ≡ false)
-    (idle : (i : ℕ) → i < 32 → jobAt r i ≡ Idle) where
+module _ (g : Setup) (now : ℕ) (s : TaskSet) (r : Run) (full : Full r) (none : (i : ℕ) → i < maxTasks → s i ≡ false)
+    (idle : (i : ℕ) → i < maxTasks → jobAt r i ≡ Idle) where
   -- an idle task is its own task with no job
   same-task : (t : Task) → t .job ≡ Idle → withJob t Idle ≡ t
   same-task t e = ap (withJob t) (sym e)
@@ -93,16 +94,16 @@ module _ (g : Setup) (now : ℕ) (s : TaskSet) (r : Run) (full : Full r) (none :
 -- ---- the slot at t of a case
 -- where N is 0 the slot leaves every task idle
 module _ (c : Case) (t : ℕ) (n : jobsNow (demoted (setupIn c) (readied (setupIn c) t (releasedAt c t) (stateAt c t))) ≡ 0) where
-  pub none-left : (i : ℕ) → i < 32 → jobAt (stateAt c (suc t)) i ≡ Idle
+  pub none-left : (i : ℕ) → i < maxTasks → jobAt (stateAt c (suc t)) i ≡ Idle
   unfolding jobsNow present
   none-left i l =
       let full = state-full c t in
       let R = readied (setupIn c) t (releasedAt c t) (stateAt c t) in
-      let a : isPresent (jobAt (demoted (setupIn c) R) i) ≡ false = none-counted (present (demoted (setupIn c) R)) 32 i n l in
+      let a : isPresent (jobAt (demoted (setupIn c) R) i) ≡ false = none-counted (present (demoted (setupIn c) R)) maxTasks i n l in
       let d = demoted-at i l (setupIn c) R (readied-full _ _ _ _ full)
       ∙ ap (demotedJob (demoting (c .policy))) (readied-at i l (setupIn c) t (releasedAt c t) (stateAt c t) full) in
-      let x : isPresent (readyAt c t i) ≡ false = sym (kept-demoted (demoting (c .policy)) (readyAt c t i) .there) ∙ sym (ap isPresent d)
-      ∙ a in
+      let x : isPresent (readyAt c t i) ≡ false =
+      sym (kept-demoted (demoting (c .policy)) (readyAt c t i) .there) ∙ sym (ap isPresent d) ∙ a in
       let o : isPresent (openAt c t i) ≡ false =
       kept-opened (demoting (c .policy)) (lowers (setupIn c) t (releasedAt c t) (stateAt c t)) (readyAt c t i) .there ∙ x in
       next-at c i l t ∙ rw (ran-present c i l t o) (idle-now (openAt c t i) o)
@@ -127,7 +128,7 @@ module _ (c : Case) (g : Legal c) (t : ℕ) (run : Run) (place : List ℕ) (next
     behind = after-now;
   }
 
-  none-now : (i : ℕ) → i < 32 → releasedAt c t i ≡ false
+  none-now : (i : ℕ) → i < maxTasks → releasedAt c t i ≡ false
   none-now i l = released-no (c .trace) (releaseCount (c .trace)) t i (λ j h e f. not-now j h e (decLe next j))
     where
       not-now : (j : ℕ) → j < releaseCount (c .trace) → timeOf (c .trace) j ≡ t → Dec (next ≤ j) → ⊥
@@ -147,19 +148,19 @@ module _ (c : Case) (g : Legal c) (t : ℕ) (run : Run) (place : List ℕ) (next
   }
 
   -- no job is there in the slot
-  absent : (i : ℕ) → i < 32 → isPresent (openAt c t i) ≡ false
+  absent : (i : ℕ) → i < maxTasks → isPresent (openAt c t i) ≡ false
   absent i l =
       let k = kept-opened (demoting (c .policy)) (lowers (setupIn c) t (releasedAt c t) (stateAt c t)) (readyAt c t i) in
       let n : isPresent (readyAt c t i) ≡ false = rw (none-now i l, v .idle (r .idle) i l) in
       k .there ∙ n
 
   -- so none runs
-  pub still-ran : tab (λ i. false) 0 32 ≡ tab (ranAt c t) 0 32
-  still-ran = tab-cong (λ i. false) (ranAt c t) 0 32 (λ i p q. sym (ran-present c i (omega arith) t (absent i (omega arith))))
+  pub still-ran : tab (λ i. false) 0 maxTasks ≡ tab (ranAt c t) 0 maxTasks
+  still-ran = tab-cong (λ i. false) (ranAt c t) 0 maxTasks (λ i p q. sym (ran-present c i (omega arith) t (absent i (omega arith))))
 
   -- and the records stand as they stood
   pub still-records : (j : ℕ) → j < releaseCount (c .trace) → recordBy c (suc t) j ≡ recordBy c t j
   still-records j h =
       let n = g .named j h in
-      let l : taskAt c j < 32 = omega (arith, g .tasks-few) in
+      let l : taskAt c j < maxTasks = omega (arith, g .tasks-few) in
       turn-idle c g t next reached-next (taskAt c j) l (absent (taskAt c j) l) j h (omega arith)

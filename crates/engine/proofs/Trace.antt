@@ -12,6 +12,7 @@ use lib.Dec.{eqb}
 use lib.ListN.{set}
 use borrow.Author.Tests.{eqb-true, eq-eqb, ne-eqb}
 use Rattle.rules.specs.Words.{tab}
+use Rattle.rules.specs.Limits.{maxTasks}
 use Rattle.rules.specs.Case.{releaseCount, timeOf, nameOf}
 use Rattle.rules.specs.Replay.{releasedIn}
 use Rattle.lists.specs.Lists.{tab-cong, tab-set}
@@ -27,16 +28,16 @@ pub record Taking (rs : List ℕ) (clock k : ℕ) (place : List ℕ) (released :
   pub at-released : released ≡ releases rs k clock
 
 pub nobody : List Bool
-nobody = tab (λ i. false) 0 32
+nobody = tab (λ i. false) 0 maxTasks
 
 pub taking-none : (rs : List ℕ) (clock from : ℕ) (place : List ℕ) → Reached rs from clock → place ≡ places rs from
-    → Taking rs clock from place (tab (λ i. false) 0 32)
+    → Taking rs clock from place (tab (λ i. false) 0 maxTasks)
 taking-none rs clock from place w e = record {
   within = w .within;
   early = λ j h. omega (arith, w .before j h);
   late = w .behind;
   at-place = e;
-  at-released = sym (tab-cong (releasedIn rs from clock) (λ i. false) 0 32
+  at-released = sym (tab-cong (releasedIn rs from clock) (λ i. false) 0 maxTasks
       (λ i p q. released-no rs from clock i (λ j h x y. omega (arith, w .before j h))));
 }
 
@@ -63,22 +64,22 @@ place-old : (rs : List ℕ) (k name : ℕ) → (nameOf rs k ≡ name → ⊥) �
 unfolding lastPlace
 place-old rs k name h = rw (ne-eqb (nameOf rs k) name h)
 
-pub taking-more : (rs : List ℕ) (clock k v : ℕ) (place : List ℕ) (released : List Bool) → Orderly rs → k < releaseCount rs
-    → timeOf rs k ≡ clock
-    → v ≡ nameOf rs k - 1 → Taking rs clock k place released → Taking rs clock (k + 1) (set place v k) (set released v true)
+pub taking-more : (rs : List ℕ) (clock k v : ℕ) (place : List ℕ) (released : List Bool)
+    → Orderly rs → k < releaseCount rs → timeOf rs k ≡ clock → v ≡ nameOf rs k - 1
+    → Taking rs clock k place released → Taking rs clock (k + 1) (set place v k) (set released v true)
 taking-more rs clock k v place released u h e z w =
     let n = u .named k h in
     let name : nameOf rs k ≡ suc v = omega arith in
-    let small : v < 32 = omega arith in
+    let small : v < maxTasks = omega arith in
     rw (add-one k) (record {
       within = omega arith;
       early = λ j l. early j (eq-or-lt-of-le {n = j} {m = k} (omega arith));
       late = λ j l m. w .late j (omega arith) m;
       at-place = rw (w .at-place) (rw (place-new rs k (suc v) name) at
-          (tab-set (λ i. lastPlace rs k (suc i)) (λ i. lastPlace rs (suc k) (suc i)) 32 v small
+          (tab-set (λ i. lastPlace rs k (suc i)) (λ i. lastPlace rs (suc k) (suc i)) maxTasks v small
           (λ i l q. sym (place-old rs k (suc i) (λ x. q (omega arith))))));
       at-released = rw (w .at-released) (rw (released-new rs k clock v e name) at
-          (tab-set (releasedIn rs k clock) (releasedIn rs (suc k) clock) 32 v small
+          (tab-set (releasedIn rs k clock) (releasedIn rs (suc k) clock) maxTasks v small
           (λ i l q. sym (released-old rs k clock i (λ x y. q (omega arith))))));
     })
   where
@@ -100,8 +101,8 @@ pub record Took (rs : List ℕ) (clock k : ℕ) (place : List ℕ) (released : L
   pub at-place : place ≡ places rs k
   pub at-released : released ≡ releases rs (releaseCount rs) clock
 
-pub taking-done : (rs : List ℕ) (clock k : ℕ) (place : List ℕ) (released : List Bool) → Orderly rs
-    → (k < releaseCount rs → timeOf rs k ≡ clock → ⊥)
+pub taking-done : (rs : List ℕ) (clock k : ℕ) (place : List ℕ) (released : List Bool)
+    → Orderly rs → (k < releaseCount rs → timeOf rs k ≡ clock → ⊥)
     → Taking rs clock k place released → Took rs clock k place released
 taking-done rs clock k place released u stop w =
     let z : k + (releaseCount rs - k) ≡ releaseCount rs = omega (arith, w .within) in
@@ -109,7 +110,7 @@ taking-done rs clock k place released u stop w =
       reached = record { within = w .within; before = w .early; behind = later };
       at-place = w .at-place;
       at-released = w .at-released ∙
-          tab-cong (releasedIn rs k clock) (releasedIn rs (releaseCount rs) clock) 0 32
+          tab-cong (releasedIn rs k clock) (releasedIn rs (releaseCount rs) clock) 0 maxTasks
           (λ i p q. sym (rw z at (released-rest rs k clock i (releaseCount rs - k) (λ j l m e. omega (arith, later j l (omega arith))))));
     }
   where

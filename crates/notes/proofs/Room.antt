@@ -12,6 +12,7 @@ use lib.ListN.{length, getD, set, drop, length-set}
 use Rattle.bridge.specs.Events.{entry}
 use lib.Seq.{drop-cons}
 use Rattle.rules.specs.Words.{tab, sum, countIn}
+use Rattle.rules.specs.Limits.{recordWidth}
 use Rattle.rules.specs.Replay.{Record, numbers}
 use Rattle.lists.specs.Lists.{tab-long, tab-snoc}
 use Rattle.bridge.specs.Notes.{numbers-long, put3, eventAt, noteOne, noteTo}
@@ -30,27 +31,34 @@ unfolding numbers
 numbers-snoc [] r = refl
 numbers-snoc (x ∷ rs) r = ap (λ (l : List ℕ). x .verdict ∷ x .finish ∷ x .demotion ∷ l) (numbers-snoc rs r)
 
-pub open-next : (xs : List ℕ) (j : ℕ) → j * 3 + 2 < length xs
-    → set (set (set (numbers (tab (λ j. openRecord) 0 j) ++ drop (j * 3) xs) (j * 3) 3) (j * 3 + 1) 0) (j * 3 + 2) 0
-    ≡ numbers (tab (λ j. openRecord) 0 (j + 1)) ++ drop ((j + 1) * 3) xs
+-- three numbers taken off what a list has from n on
+three-off : (xs : List ℕ) (n : ℕ) → n + 2 < length xs
+    → drop n xs ≡ getD xs n 0 ∷ getD xs (suc n) 0 ∷ getD xs (suc (suc n)) 0 ∷ drop (suc (suc (suc n))) xs
+three-off xs n h =
+    drop-cons xs n 0 (omega arith) ∙
+    ap (λ (l : List ℕ). getD xs n 0 ∷ l) (drop-cons xs (suc n) 0 (omega arith) ∙
+    ap (λ (l : List ℕ). getD xs (suc n) 0 ∷ l) (drop-cons xs (suc (suc n)) 0 (omega arith)))
+
+-- the numbers of n open records
+abbrev pub opens : ℕ → List ℕ
+opens n = numbers (tab (λ j. openRecord) 0 n)
+
+-- one record more is opened
+pub open-next : (xs : List ℕ) (j : ℕ) → j * recordWidth + 2 < length xs
+    → set (set (set (opens j ++ drop (j * recordWidth) xs) (j * recordWidth) 3) (j * recordWidth + 1) 0) (j * recordWidth + 2) 0
+    ≡ opens (j + 1) ++ drop ((j + 1) * recordWidth) xs
 open-next xs j h =
-    let n = j * 3 in
-    let long : length (numbers (tab (λ j. openRecord) 0 j)) ≡ j * 3 =
-    numbers-long _ ∙ ap (λ (k : ℕ). k * 3) (tab-long (λ j. openRecord) 0 j) in
-    let d : drop (j * 3) xs ≡ getD xs (j * 3) 0 ∷ getD xs (suc (j * 3)) 0 ∷ getD xs (suc (suc (j * 3))) 0
-    ∷ drop (suc (suc (suc (j * 3)))) xs =
-    drop-cons xs (j * 3) 0 (omega arith) ∙
-    ap (λ (l : List ℕ). getD xs (j * 3) 0 ∷ l) (drop-cons xs (suc (j * 3)) 0 (omega arith) ∙
-    ap (λ (l : List ℕ). getD xs (suc (j * 3)) 0 ∷ l) (drop-cons xs (suc (suc (j * 3))) 0 (omega arith)))
-    in
-    let e : (j + 1) * 3 ≡ suc (suc (suc (j * 3))) = omega arith in
-    rw (d, e, add-one j) (set3 (numbers (tab (λ j. openRecord) 0 j)) (drop (suc (suc (suc (j * 3)))) xs) _ _ _ 3 0 0 (j * 3) long ∙
+    let n = j * recordWidth in
+    let long : length (opens j) ≡ n = numbers-long _ ∙ ap (λ (k : ℕ). k * recordWidth) (tab-long (λ j. openRecord) 0 j) in
+    let e : (j + 1) * recordWidth ≡ suc (suc (suc n)) = omega arith in
+    rw (three-off xs n h, e, add-one j)
+    (set3 (opens j) (drop (suc (suc (suc n))) xs) _ _ _ 3 0 0 n long ∙
     sym (rw (tab-snoc (λ (j : ℕ). openRecord) 0 j, numbers-snoc (tab (λ j. openRecord) 0 j) openRecord)
-    (append-assoc (numbers (tab (λ j. openRecord) 0 j)) (3 ∷ 0 ∷ 0 ∷ []) (drop (suc (suc (suc (j * 3)))) xs))))
+    (append-assoc (opens j) (3 ∷ 0 ∷ 0 ∷ []) (drop (suc (suc (suc n))) xs))))
 
 -- three stores are a record's store
 pub stores : (xs : List ℕ) (p v f d : ℕ) (r : Record) → v ≡ r .verdict → f ≡ r .finish → d ≡ r .demotion
-    → set (set (set xs (p * 3) v) (p * 3 + 1) f) (p * 3 + 2) d ≡ put3 xs p r
+    → set (set (set xs (p * recordWidth) v) (p * recordWidth + 1) f) (p * recordWidth + 2) d ≡ put3 xs p r
 unfolding put3
 stores xs p v f d r a b e = rw (a, b, e)
 
@@ -63,7 +71,7 @@ module _ (t : ℕ) (place : List ℕ) (fin dem missed : List Bool) (i : ℕ) (xs
     (so-far : out ≡ noteTo t place fin dem missed i xs) where
   pub note-yes : (b : Bool) → b ≡ eventAt fin dem missed i → b ≡ true
       → new ≡ put3 out (getD place i 0) (entry t (getD fin i false) (getD dem i false) (getD missed i false)
-      (getD out (getD place i 0 * 3 + 2) 0))
+      (getD out (getD place i 0 * recordWidth + 2) 0))
       → new ≡ noteTo t place fin dem missed (i + 1) xs
   unfolding noteTo noteOne
   note-yes b e h n = n ∙ rw (add-one i, sym e ∙ h, ← so-far)

@@ -8,6 +8,7 @@ use borrow.Author.Tests.{lt-ltb, ltb-true}
 use Rattle.rules.specs.declared.Job.{Job}
 use Rattle.rules.specs.declared.Job.the-variants.{Idle}
 use Rattle.rules.specs.Words.{pick, countIn}
+use Rattle.rules.specs.Limits.{maxTasks}
 use Rattle.rules.specs.Case.{Case, under}
 use Rattle.rules.specs.Policies.{edf, demoting}
 use Rattle.rules.specs.Slot.{jobAt, isPresent, isDemoted, leftOf, dueOf, isMissed, releasedJob, jobBefore, comesBefore, rank, present}
@@ -99,26 +100,27 @@ module _ (c : Case) (cf : demoting (c .policy) ≡ true) where
   open-dom : (t i : ℕ) → Dom (readyAt E t i) (readyAt c t i) → Dom (openAt E t i) (openAt c t i)
   open-dom t i h = dom-opened (demoting (c .policy)) (lowers (setupIn c) t (releasedAt c t) (stateAt c t)) (readyAt E t i) (readyAt c t i) h
 
-  runs-dom : (t i : ℕ) → i < 32 → ((j : ℕ) → j < 32 → Dom (openAt E t j) (openAt c t j)) → isPresent (openAt c t i) ≡ true
+  runs-dom : (t i : ℕ) → i < maxTasks → ((j : ℕ) → j < maxTasks → Dom (openAt E t j) (openAt c t j)) → isPresent (openAt c t i) ≡ true
       → isDemoted (openAt c t i) ≡ false → ranAt E t i ≡ true → ranAt c t i ≡ true
   unfolding ranAt ran chosen present rank
   runs-dom t i l h p q e =
       let oe = opened (setupIn E) t (releasedAt E t) (stateAt E t) in
       let of = opened (setupIn c) t (releasedAt c t) (stateAt c t) in
-      let fewer : countIn (λ j. comesBefore (setupIn c) t of j i) 0 32 ≤ countIn (λ j. comesBefore (setupIn E) t oe j i) 0 32 =
-      count-mono (λ j. comesBefore (setupIn c) t of j i) (λ j. comesBefore (setupIn E) t oe j i) 0 32 (λ j x y b.
+      let fewer : countIn (λ j. comesBefore (setupIn c) t of j i) 0 maxTasks ≤ countIn (λ j. comesBefore (setupIn E) t oe j i) 0 maxTasks =
+      count-mono (λ j. comesBefore (setupIn c) t of j i) (λ j. comesBefore (setupIn E) t oe j i) 0 maxTasks (λ j x y b.
       rw (open-at E j (omega arith) t, open-at E i l t) (before (c .policy) t
       (openAt E t j) (openAt c t j) (openAt E t i) (openAt c t i) j i cf (h j (omega arith)) (h i l) p q
       (rw (open-at c j (omega arith) t, open-at c i l t) at b)))
       in
-      let k : countIn (λ j. comesBefore (setupIn E) t oe j i) 0 32 < c .procs = ltb-true _ _ (and-right (isPresent (jobAt oe i)) _ e) in
+      let k : countIn (λ j. comesBefore (setupIn E) t oe j i) 0 maxTasks < c .procs =
+      ltb-true _ _ (and-right (isPresent (jobAt oe i)) _ e) in
       and-both (isPresent (jobAt of i)) _ (ap isPresent (open-at c i l t) ∙ p)
-      (lt-ltb (countIn (λ j. comesBefore (setupIn c) t of j i) 0 32) (c .procs) (omega (arith, fewer, k)))
+      (lt-ltb (countIn (λ j. comesBefore (setupIn c) t of j i) 0 maxTasks) (c .procs) (omega (arith, fewer, k)))
 
   -- at every time, for every task
-  pub dominated : (t i : ℕ) → i < 32 → Dom (jobAt (stateAt E t) i) (jobAt (stateAt c t) i)
+  pub dominated : (t i : ℕ) → i < maxTasks → Dom (jobAt (stateAt E t) i) (jobAt (stateAt c t) i)
   dominated zero i l = rw (at-first c i l) (λ p q. absurd (false≢true p))
   dominated (suc t) i l =
-      let o : (j : ℕ) → j < 32 → Dom (openAt E t j) (openAt c t j) = λ j h. open-dom t j (ready-dom t j (dominated t j h)) in
+      let o : (j : ℕ) → j < maxTasks → Dom (openAt E t j) (openAt c t j) = λ j h. open-dom t j (ready-dom t j (dominated t j h)) in
       rw (next-at E i l t, next-at c i l t)
       (dom-worked (ranAt E t i) (ranAt c t i) (openAt E t i) (openAt c t i) (o i l) (runs-dom t i l o))

@@ -9,6 +9,7 @@ use lib.Dec.{eqb, leb}
 use borrow.Author.Tests.{le-leb, lt-leb, leb-true, leb-false, eq-eqb, eqb-true, ne-eqb}
 use Rattle.rules.specs.declared.Job.{Job}
 use Rattle.rules.specs.Words.{bit, countIn}
+use Rattle.rules.specs.Limits.{maxTasks}
 use Rattle.rules.specs.Case.{Case, deadline, releaseCount, timeOf, nameOf}
 use Rattle.rules.specs.Slot.{jobAt, isPresent, dueOf, present, jobsNow, isMissed, missed}
 use Rattle.rules.specs.Replay.{releasedAt, stateAt, closing, missedAt, slotsBy, finishBy, demotionBy, verdictOf, verdictBy, recordBy}
@@ -25,7 +26,7 @@ use Rattle.theory.specs.Accept.{lawful, released-some, stand-due}
 use Rattle.theory.specs.Verdicts.{missed-says, open-says}
 
 -- ---- where the jobs of the states come from
-module _ (c : Case) (g : Legal c) (i : ℕ) (l : i < 32) where
+module _ (c : Case) (g : Legal c) (i : ℕ) (l : i < maxTasks) where
   -- a job that stands at t comes from a release before t, and its deadline is not past
   from-release : (t : ℕ) → isPresent (jobAt (stateAt c t) i) ≡ true → From (replayOf c) i t t (jobAt (stateAt c t) i)
   from-release t = rw (replay-state c t) at (state-from (replayOf c) i l lasts t)
@@ -124,7 +125,7 @@ module _ (c : Case) (g : Legal c) (j : ℕ) (h : j < releaseCount (c .trace)) wh
           ∙ sym (ap isPresent (left-at c g i (sole c g j h .task))) ∙ e))
 
 -- ---- each job removed or left is that of a release
-module _ (c : Case) (g : Legal c) (i : ℕ) (l : i < 32) where
+module _ (c : Case) (g : Legal c) (i : ℕ) (l : i < maxTasks) where
   pub removed-release : (t : ℕ) → missedAt c t i ≡ true → (j : ℕ)
       × ((j < releaseCount (c .trace)) × (taskAt c j ≡ i) × (timeOf (c .trace) j + deadline (c .table) i ≡ t))
   unfolding missedAt missed
@@ -170,7 +171,7 @@ module _ (c : Case) (g : Legal c) where
       omega (arith, g .separate j k h l same, p .2, q .2, m .some, m .fits, m .within)
 
   -- of the releases of a task one is open where its job is left, and none where it has none
-  task-opens : (i : ℕ) → i < 32 → countIn (opens i) 0 n ≡ bit (isPresent (jobAt (closing c) i))
+  task-opens : (i : ℕ) → i < maxTasks → countIn (opens i) 0 n ≡ bit (isPresent (jobAt (closing c) i))
   unfolding recordBy verdictBy
   task-opens i l = go (isPresent (jobAt (closing c) i)) refl
     where
@@ -188,13 +189,13 @@ module _ (c : Case) (g : Legal c) where
           (λ j k x y. one-open i j k x (omega arith))
 
   -- an open release is open of its own task alone
-  by-task : (j : ℕ) → j < n → bit (isOpen j) ≡ countIn (λ i. opens i j) 0 32
+  by-task : (j : ℕ) → j < n → bit (isOpen j) ≡ countIn (λ i. opens i j) 0 maxTasks
   by-task j h = go (isOpen j) refl
     where
-      go : (b : Bool) → isOpen j ≡ b → bit b ≡ countIn (λ i. opens i j) 0 32
-      go false e = sym (count-none (λ i. opens i j) 0 32 (λ i x y. rw e))
+      go : (b : Bool) → isOpen j ≡ b → bit b ≡ countIn (λ i. opens i j) 0 maxTasks
+      go false e = sym (count-none (λ i. opens i j) 0 maxTasks (λ i x y. rw e))
       go true e =
-          sym (count-only (λ i. opens i j) 0 32 (taskAt c j) (omega arith) (omega (arith, g .named j h, g .tasks-few))
+          sym (count-only (λ i. opens i j) 0 maxTasks (taskAt c j) (omega arith) (omega (arith, g .named j h, g .tasks-few))
           (and-both (isOpen j) _ e (eq-eqb (taskAt c j) _ refl))
           (λ i k x y p q. apart i k x (eqb-true (taskAt c j) i (and-right (isOpen j) _ p))
           (eqb-true (taskAt c j) k (and-right (isOpen j) _ q))))
@@ -205,5 +206,5 @@ module _ (c : Case) (g : Legal c) where
   pub open-count : countIn (λ j. eqb (recordBy c (c .end) j .verdict) 3) 0 (releaseCount (c .trace)) ≡ jobsNow (closing c)
   unfolding jobsNow present
   open-count =
-      sum-cong _ _ 0 n (λ j x y. by-task j (omega arith)) ∙ sum-swap (λ i j. bit (opens i j)) 0 n 0 32 ∙
-      sum-cong _ _ 0 32 (λ i x y. task-opens i (omega arith))
+      sum-cong _ _ 0 n (λ j x y. by-task j (omega arith)) ∙ sum-swap (λ i j. bit (opens i j)) 0 n 0 maxTasks ∙
+      sum-cong _ _ 0 maxTasks (λ i x y. task-opens i (omega arith))

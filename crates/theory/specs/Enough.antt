@@ -12,6 +12,7 @@ use borrow.Author.Tests.{eq-eqb}
 use Rattle.rules.specs.declared.Job.{Job}
 use Rattle.rules.specs.declared.Job.the-variants.{Idle}
 use Rattle.rules.specs.Words.{pick, bit, sum, countIn}
+use Rattle.rules.specs.Limits.{maxTasks}
 use Rattle.rules.specs.Case.{taskCount, period, deadline}
 use Rattle.rules.specs.Counts.{availability, availabilities, count}
 use Rattle.rules.specs.Slot.{jobAt, isPresent, dueOf, isMissed, contentionFree, workedJob}
@@ -65,7 +66,7 @@ module _ (k : Course) (i : ℕ) where
           ahead f (inr h) = h
           ahead f (inl h) = absurd (true≢false (sym (rw (e, eq-eqb (dueOf j) t (f .due ∙ sym h))) ∙ q))
 
-  module _ (l : i < 32) (pos : (t : ℕ) → k .released t i ≡ true → 0 < D) where
+  module _ (l : i < maxTasks) (pos : (t : ℕ) → k .released t i ≡ true → 0 < D) where
     found-from : (t : ℕ) → (isPresent (jobAt (stateIn k t) i) ≡ true → From k i t t (jobAt (stateIn k t) i))
         → isPresent (foundIn k t i) ≡ true → From k i (suc t) (suc t) (foundIn k t i)
     found-from t s = go (k .released t i) refl
@@ -102,7 +103,7 @@ module _ (k : Course) (g : Lawful k) where
   ts = k .setup .table
 
   abbrev jobsAt : ℕ → ℕ
-  jobsAt t = countIn (λ i. isPresent (foundIn k t i)) 0 32
+  jobsAt t = countIn (λ i. isPresent (foundIn k t i)) 0 maxTasks
 
   -- the slots of a window in which a task has a job
   task-slots : (i : ℕ) → i < taskCount ts → (a l : ℕ) → countIn (λ t. isPresent (foundIn k t i)) a l
@@ -123,7 +124,7 @@ module _ (k : Course) (g : Lawful k) where
             (span-in (deadline ts i) (f .at) t (omega (arith, f .past)) (f .ahead))),
       )
 
-  no-slots : (i : ℕ) → i < 32 → taskCount ts ≤ i → (t : ℕ) → isPresent (foundIn k t i) ≡ false
+  no-slots : (i : ℕ) → i < maxTasks → taskCount ts ≤ i → (t : ℕ) → isPresent (foundIn k t i) ≡ false
   no-slots i l h t = go (isPresent (foundIn k t i)) refl
     where
       go : (b : Bool) → isPresent (foundIn k t i) ≡ b → isPresent (foundIn k t i) ≡ false
@@ -136,15 +137,15 @@ module _ (k : Course) (g : Lawful k) where
   unfolding availabilities
   jobs-sum a l =
       let n = taskCount ts in
-      let z : n + (32 - n) ≡ 32 = omega (arith, g .tasks-few) in
+      let z : n + (maxTasks - n) ≡ maxTasks = omega (arith, g .tasks-few) in
       let f : ℕ → ℕ = λ i. countIn (λ t. isPresent (foundIn k t i)) a l in
-      let swap : sum jobsAt a l ≡ sum f 0 32 = sum-swap (λ i t. bit (isPresent (foundIn k t i))) a l 0 32 in
-      let split : sum f 0 32 ≡ sum f 0 n + sum f (0 + n) (32 - n) = rw z at (sum-split f 0 n (32 - n)) in
+      let swap : sum jobsAt a l ≡ sum f 0 maxTasks = sum-swap (λ i t. bit (isPresent (foundIn k t i))) a l 0 maxTasks in
+      let split : sum f 0 maxTasks ≡ sum f 0 n + sum f (0 + n) (maxTasks - n) = rw z at (sum-split f 0 n (maxTasks - n)) in
       let front = sum-mono f (λ i. availability (period ts i) (deadline ts i) l) 0 n (λ i x y. task-slots i (omega arith) a l) in
-      let back = sum-mono f (λ i. 0) (0 + n) (32 - n) (λ i x y.
+      let back = sum-mono f (λ i. 0) (0 + n) (maxTasks - n) (λ i x y.
       omega (arith, count-none (λ t. isPresent (foundIn k t i)) a l (λ t u v. no-slots i (omega arith) (omega arith) t)))
       in
-      omega (arith, swap, split, front, back, sum-const 0 (0 + n) (32 - n))
+      omega (arith, swap, split, front, back, sum-const 0 (0 + n) (maxTasks - n))
 
   pub enough : (a l : ℕ) → count (k .setup .procs) (k .setup .table) l ≤ countIn (contentionFreeIn k) a l
   unfolding count contentionFreeIn contentionFree

@@ -5,6 +5,7 @@ use Prim.Native.Nat.{ℕ, _+_, _≤_, _<_}
 use native.Mathlib.Omega.{arith}
 use borrow.Author.Tests.{leb-true}
 use Rattle.rules.specs.Words.{countIn}
+use Rattle.rules.specs.Limits.{maxTasks}
 use Rattle.rules.specs.Case.{Case, taskCount, period, execution, deadline}
 use Rattle.rules.specs.Policies.{demoting}
 use Rattle.rules.specs.Slot.{isPresent, isDemoted, present, isDemotedNow, readied, contentionFree, jobsNow, ran}
@@ -19,11 +20,11 @@ use Rattle.theory.specs.Order.{chosen-all}
 
 -- before time e, every job that is there in a contention-free slot is worked in it: all that parts 1 and 2 ask of a scheduler
 abbrev pub Attends : Course → ℕ → Type 0
-Attends k e = (t i : ℕ) → t < e → i < 32 → contentionFreeIn k t ≡ true → present (openedIn k t) i ≡ true → k .works t i ≡ true
+Attends k e = (t i : ℕ) → t < e → i < maxTasks → contentionFreeIn k t ≡ true → present (openedIn k t) i ≡ true → k .works t i ≡ true
 
 -- the releases are of tasks of a good table, and those of one task are at least T apart
 pub record Lawful (k : Course) : Type 0 where
-  pub tasks-few : taskCount (k .setup .table) ≤ 32
+  pub tasks-few : taskCount (k .setup .table) ≤ maxTasks
   pub good : (i : ℕ) → i < taskCount (k .setup .table)
       → Good (period (k .setup .table) i) (execution (k .setup .table) i) (deadline (k .setup .table) i)
   pub named : (t i : ℕ) → k .released t i ≡ true → i < taskCount (k .setup .table)
@@ -31,7 +32,7 @@ pub record Lawful (k : Course) : Type 0 where
 
 -- ---- the jobs of a slot
 module _ (k : Course) where
-  module _ (t i : ℕ) (l : i < 32) where
+  module _ (t i : ℕ) (l : i < maxTasks) where
     pub kept-in : Kept (foundIn k t i) (openIn k t i)
         (isDemoted (foundIn k t i) || (demoting (k .setup .policy) && isDemotedNow (foundIn k t i)))
     kept-in = kept-opened (demoting (k .setup .policy)) (demoting (k .setup .policy) && contentionFreeIn k t) (foundIn k t i)
@@ -49,13 +50,13 @@ module _ (k : Course) where
         kept-demoted (demoting (k .setup .policy)) (foundIn k t i) .there
 
   -- steps 3 and 4 change no job's presence: N is the number of jobs that steps 1 and 2 leave, and of those that step 5 sees
-  pub jobs-found : (t : ℕ) → jobsNow (countedIn k t) ≡ countIn (λ i. isPresent (foundIn k t i)) 0 32
+  pub jobs-found : (t : ℕ) → jobsNow (countedIn k t) ≡ countIn (λ i. isPresent (foundIn k t i)) 0 maxTasks
   unfolding jobsNow
-  jobs-found t = count-cong _ _ 0 32 (λ i x y. counted-in t i (omega arith))
+  jobs-found t = count-cong _ _ 0 maxTasks (λ i x y. counted-in t i (omega arith))
 
   pub jobs-opened : (t : ℕ) → jobsNow (openedIn k t) ≡ jobsNow (countedIn k t)
   unfolding jobsNow
-  jobs-opened t = count-cong _ _ 0 32 (λ i x y. present-in t i (omega arith) ∙ sym (counted-in t i (omega arith)))
+  jobs-opened t = count-cong _ _ 0 maxTasks (λ i x y. present-in t i (omega arith) ∙ sym (counted-in t i (omega arith)))
 
 -- ---- the replay
 pub replay-free : (c : Case) (t : ℕ) → contentionFreeIn (replayOf c) t ≡ contentionFreeAt c t

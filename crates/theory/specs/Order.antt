@@ -12,6 +12,7 @@ use borrow.Author.Tests.{ltb-true, eqb-true, eq-eqb, le-ltb, lt-ltb}
 use Rattle.rules.specs.declared.Job.{Job}
 use Rattle.rules.specs.declared.Run.{Run}
 use Rattle.rules.specs.Words.{countIn}
+use Rattle.rules.specs.Limits.{maxTasks}
 use Rattle.rules.specs.Slot.{Setup, jobAt, isPresent, isDemoted, kind, dueOf, inTurn, present, jobsNow, jobBefore, comesBefore, rank}
 use Rattle.rules.specs.Slot.{chosen}
 use Rattle.bridge.specs.Jobs.{kind-normal, kind-demoted}
@@ -86,19 +87,19 @@ module _ (g : Setup) (now : ℕ) (r : Run) where
       rw (turn-self (kind (g .policy) now j) _ (turn-self (dueOf j) _ (le-ltb i i (le-refl i)))) (and-false (isPresent j))
 
   -- who comes before another has the lower rank
-  rank-less : (j i : ℕ) → j < 32 → comesBefore g now r j i ≡ true → rank g now r j < rank g now r i
+  rank-less : (j i : ℕ) → j < maxTasks → comesBefore g now r j i ≡ true → rank g now r j < rank g now r i
   unfolding rank
   rank-less j i l e =
-      count-lt (λ k. comesBefore g now r k j) (λ k. comesBefore g now r k i) 0 32
+      count-lt (λ k. comesBefore g now r k j) (λ k. comesBefore g now r k i) 0 maxTasks
       (λ k x y h. before-trans (g .policy) now (jobAt r k) (jobAt r j) (jobAt r i) k j i h e) j (omega arith) (omega arith) (self j) e
 
-  rank-below : (i : ℕ) → i < 32 → present r i ≡ true → rank g now r i < countIn (present r) 0 32
+  rank-below : (i : ℕ) → i < maxTasks → present r i ≡ true → rank g now r i < countIn (present r) 0 maxTasks
   unfolding rank present jobBefore
   rank-below i l e =
-      count-lt (λ j. comesBefore g now r j i) (present r) 0 32 (λ j x y h. and-left (isPresent (jobAt r j)) _ h) i (omega arith)
+      count-lt (λ j. comesBefore g now r j i) (present r) 0 maxTasks (λ j x y h. and-left (isPresent (jobAt r j)) _ h) i (omega arith)
       (omega arith) (self i) e
 
-  rank-distinct : (i j : ℕ) → i < j → j < 32 → present r i ≡ true → present r j ≡ true → rank g now r i ≡ rank g now r j → ⊥
+  rank-distinct : (i j : ℕ) → i < j → j < maxTasks → present r i ≡ true → present r j ≡ true → rank g now r i ≡ rank g now r j → ⊥
   unfolding present
   rank-distinct i j h l x y e = go (before-total (g .policy) now (jobAt r i) (jobAt r j) i j h x y)
     where
@@ -107,12 +108,12 @@ module _ (g : Setup) (now : ℕ) (r : Run) where
       go (inr b) = omega (arith, rank-less j i l b)
 
   -- exactly min(m, N) run
-  pub chosen-exactly : countIn (chosen g now r) 0 32 ≡ min (g .procs) (jobsNow r)
+  pub chosen-exactly : countIn (chosen g now r) 0 maxTasks ≡ min (g .procs) (jobsNow r)
   unfolding chosen jobsNow
-  chosen-exactly = ranked (present r) (rank g now r) 32 rank-below rank-distinct (g .procs)
+  chosen-exactly = ranked (present r) (rank g now r) maxTasks rank-below rank-distinct (g .procs)
 
   -- whoever comes before a job that runs, runs
-  pub chosen-down : (j i : ℕ) → j < 32 → comesBefore g now r j i ≡ true → chosen g now r i ≡ true → chosen g now r j ≡ true
+  pub chosen-down : (j i : ℕ) → j < maxTasks → comesBefore g now r j i ≡ true → chosen g now r i ≡ true → chosen g now r j ≡ true
   unfolding chosen present jobBefore
   chosen-down j i l b e =
       let k : rank g now r i < g .procs = ltb-true _ _ (and-right (isPresent (jobAt r i)) _ e) in
@@ -120,14 +121,14 @@ module _ (g : Setup) (now : ℕ) (r : Run) where
       and-both (isPresent (jobAt r j)) _ (and-left (isPresent (jobAt r j)) _ b) (lt-ltb _ _ h)
 
   -- where N ≤ m every job that is there runs
-  pub chosen-all : (i : ℕ) → i < 32 → jobsNow r ≤ g .procs → present r i ≡ true → chosen g now r i ≡ true
+  pub chosen-all : (i : ℕ) → i < maxTasks → jobsNow r ≤ g .procs → present r i ≡ true → chosen g now r i ≡ true
   unfolding chosen jobsNow
   chosen-all i l h e =
       let k : rank g now r i < g .procs = omega (arith, rank-below i l e) in
       and-both (present r i) _ e (lt-ltb _ _ k)
 
   -- where a demoted job runs, every normal job that is there runs too
-  pub demoted-last : (j i : ℕ) → j < 32 → chosen g now r i ≡ true → isDemoted (jobAt r i) ≡ true → present r j ≡ true
+  pub demoted-last : (j i : ℕ) → j < maxTasks → chosen g now r i ≡ true → isDemoted (jobAt r i) ≡ true → present r j ≡ true
       → isDemoted (jobAt r j) ≡ false
       → chosen g now r j ≡ true
   unfolding present jobBefore

@@ -4,6 +4,7 @@ use mathlib.Core.Bool.{false, true≢false}
 use mathlib.Core.Logic.{⊎-elim}
 use Prim.Native.Nat.{_-_, _≤_}
 use native.Mathlib.Omega.{arith}
+use Rattle.rules.specs.Limits.{maxTasks}
 use Rattle.notes.specs.Noted.{Uneventful}
 use Rattle.notes.proofs.Room.{uneventful-more}
 use borrow.Author.Needs.{needs}
@@ -11,10 +12,10 @@ use Rattle.notes.proofs.any_event.Statement.{statement}
 use Rattle.notes.proofs.any_event.Tie as tie
 
 abbrev Inv-loop : tie.InvT-loop
-Inv-loop finished demoted missed any₀ i₀ any i = (i ≤ 32) × (any ≡ false → Uneventful finished demoted missed i)
+Inv-loop finished demoted missed any₀ i₀ any i = (i ≤ maxTasks) × (any ≡ false → Uneventful finished demoted missed i)
 
 abbrev μ-loop : tie.MeasureT-loop
-μ-loop finished demoted missed any₀ i₀ any i = 32 - i
+μ-loop finished demoted missed any₀ i₀ any i = maxTasks - i
 
 loop-holds : tie.Need-loop-holds Inv-loop μ-loop
 loop-holds c = (omega arith, λ e i h. absurd (omega arith))
@@ -51,7 +52,7 @@ loop-again c =
 
 returns : tie.Need-returns Inv-loop μ-loop
 returns c =
-    let e : c .before .loop .i ≡ 32 = omega arith in
+    let e : c .before .loop .i ≡ maxTasks = omega arith in
     rw e at (c .before .loop .inv .1)
 
 pub any-event-spec : {M : Type 1} → statement M

@@ -8,12 +8,13 @@ use borrow.Author.Tests.{eq-eqb, ne-eqb}
 use lib.Dec.{eqb}
 use mathlib.Core.Logic.{⊎-elim}
 use Rattle.rules.specs.Words.{countIn, sum}
+use Rattle.rules.specs.Limits.{recordWidth}
 use Rattle.notes.proofs.Room.{tally-yes, tally-no}
 use Rattle.notes.proofs.marked_in.Statement.{statement}
 use Rattle.notes.proofs.marked_in.Tie as tie
 
 abbrev Inv-loop : tie.InvT-loop
-Inv-loop out n v s₀ j₀ s j = (j ≤ n) × (s ≤ j) × (s ≡ countIn (λ j. eqb (getD out (j * 3) 0) v) 0 j)
+Inv-loop out n v s₀ j₀ s j = (j ≤ n) × (s ≤ j) × (s ≡ countIn (λ j. eqb (getD out (j * recordWidth) 0) v) 0 j)
 
 abbrev μ-loop : tie.MeasureT-loop
 μ-loop out n v s₀ j₀ s j = n - j
@@ -48,12 +49,13 @@ loop-again c =
     ⊎-elim (λ w. rw (w .1) (
       omega arith,
       omega (arith, v .1),
-      tally-yes (λ k. eqb (getD (start .args .out .now) (k * 3) 0) (start .args .v)) (l .s) (l .j) (v .2) (eq-eqb _ _ (w .0 .taken)),
+      tally-yes (λ k. eqb (getD (start .args .out .now) (k * recordWidth) 0) (start .args .v)) (l .s)
+          (l .j) (v .2) (eq-eqb _ _ (w .0 .taken)),
     ))
     (λ w. rw (w .1) (
       omega arith,
       omega (arith, v .1),
-      tally-no (λ k. eqb (getD (start .args .out .now) (k * 3) 0) (start .args .v)) (l .s)
+      tally-no (λ k. eqb (getD (start .args .out .now) (k * recordWidth) 0) (start .args .v)) (l .s)
           (l .j) (v .2) (ne-eqb _ _ (w .0 .left)),
     )) (c .if1 .came)
 

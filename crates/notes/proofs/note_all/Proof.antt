@@ -4,6 +4,7 @@ use mathlib.Core.Logic.{⊎-elim}
 use Prim.Native.Nat.{_-_, _≤_}
 use native.Mathlib.Omega.{arith}
 use lib.ListN.{length}
+use Rattle.rules.specs.Limits.{maxTasks}
 use Rattle.bridge.specs.Notes.{noteTo}
 use Rattle.notes.proofs.Room.{note-yes, note-no, put3-long}
 use borrow.Author.Needs.{needs}
@@ -12,10 +13,10 @@ use Rattle.notes.proofs.note_all.Tie as tie
 
 abbrev Inv-loop : tie.InvT-loop
 Inv-loop out₀ place finished demoted missed clock i₀ out i =
-    (i ≤ 32) × (length out ≡ length out₀) × (out ≡ noteTo clock place finished demoted missed i out₀)
+    (i ≤ maxTasks) × (length out ≡ length out₀) × (out ≡ noteTo clock place finished demoted missed i out₀)
 
 abbrev μ-loop : tie.MeasureT-loop
-μ-loop out₀ place finished demoted missed clock i₀ out i = 32 - i
+μ-loop out₀ place finished demoted missed clock i₀ out i = maxTasks - i
 
 loop-holds : tie.Need-loop-holds Inv-loop μ-loop
 unfolding noteTo
@@ -71,7 +72,7 @@ same-length c = c .before .loop .inv .1
 
 returns : tie.Need-returns Inv-loop μ-loop
 returns c =
-    let e : c .before .loop .i ≡ 32 = omega arith in
+    let e : c .before .loop .i ≡ maxTasks = omega arith in
     rw e at (c .before .loop .inv .2)
 
 pub note-all-spec : {M : Type 1} → statement M

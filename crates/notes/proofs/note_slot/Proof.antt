@@ -1,5 +1,6 @@
 -- `notes::note_slot` meets its contract: where nothing happens nothing is to be stored.
 use mathlib.Core.Path.{sym}
+use Rattle.rules.specs.Limits.{maxTasks}
 use Rattle.bridge.specs.Notes.{noted-none}
 use borrow.Author.Needs.{needs}
 use Rattle.notes.proofs.note_slot.Statement.{statement}
@@ -18,7 +19,7 @@ returns : tie.Need-returns
 returns c = search needs
 
 returns-2 : tie.Need-returns-2
-returns-2 c = sym (noted-none _ _ _ _ _ 32 _ (c .before .any-event .ensures (c .if1 .left)))
+returns-2 c = sym (noted-none _ _ _ _ _ maxTasks _ (c .before .any-event .ensures (c .if1 .left)))
 
 pub note-slot-spec : {M : Type 1} → statement M
 note-slot-spec =

@@ -6,6 +6,7 @@ use Prim.Native.Nat.{_+_, _-_, _*_, _≤_}
 use lib.ListN.{length, drop, length-set}
 use mathlib.Core.List.{_++_}
 use Rattle.rules.specs.Words.{tab}
+use Rattle.rules.specs.Limits.{recordWidth}
 use Rattle.rules.specs.Replay.{numbers}
 use Rattle.notes.specs.Noted.{openRecord}
 use Rattle.notes.proofs.Room.{open-next}
@@ -13,7 +14,8 @@ use Rattle.notes.proofs.open_records.Statement.{statement}
 use Rattle.notes.proofs.open_records.Tie as tie
 
 abbrev Inv-loop : tie.InvT-loop
-Inv-loop out₀ len j₀ out j = (j ≤ len) × (length out ≡ length out₀) × (out ≡ numbers (tab (λ j. openRecord) 0 j) ++ drop (j * 3) out₀)
+Inv-loop out₀ len j₀ out j =
+    (j ≤ len) × (length out ≡ length out₀) × (out ≡ numbers (tab (λ j. openRecord) 0 j) ++ drop (j * recordWidth) out₀)
 
 abbrev μ-loop : tie.MeasureT-loop
 μ-loop out₀ len j₀ out j = len - j
