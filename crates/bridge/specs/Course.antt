@@ -145,7 +145,7 @@ module _ (k : Course) (i a : ℕ) (s : Sole k i a) where
       → Stand (firstIn (λ t. finishedIn k t i) a n) (firstIn (λ t. demotedIn k t i) a n) (a + deadline (k .setup .table) i)
       (foundIn k (a + n) i)
   unfolding firstIn
-  found-stands zero h = rw (add-zero a, s .released) (inl (refl, record { there = refl; its = refl; lowly = refl }))
+  found-stands zero h = rw (add-zero a, s .released) (inl (refl, record { there = refl; its = refl; demoted = refl }))
   found-stands (suc n) h =
       let v = stand-next n (found-stands n (omega arith)) in
       rw (add-suc a n, found-after n h v) v

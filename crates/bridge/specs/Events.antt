@@ -22,11 +22,11 @@ use Rattle.bridge.specs.Turn.{lastPlace, Reached, Live, turn-idle, turn-
 
 -- whether anything is written
 abbrev pub event : Bool → Bool → Bool → Bool
-event fin dem late = fin || dem || late
+event fin dem missed = fin || dem || missed
 
--- what is written: finished at t + 1, demoted at t, or late, which is to say removed as missed at t + 1; d is the demotion so far
+-- what is written: finished at t + 1, demoted at t, or removed as missed at t + 1; d is the demotion so far
 abbrev pub entry : ℕ → Bool → Bool → Bool → ℕ → Record
-entry t fin dem late d = recordOf (pick fin 1 (pick late 2 3)) (pick fin (suc t) 0) (pick dem (suc t) d)
+entry t fin dem missed d = recordOf (pick fin 1 (pick missed 2 3)) (pick fin (suc t) 0) (pick dem (suc t) d)
 
 -- ---- one job
 -- a job that is there and does not finish is there after the slot, with its deadline
@@ -49,9 +49,10 @@ just-come t due h = go (eqb due (suc t)) refl
         strict : (due ≡ suc t → ⊥) → suc t < due
         strict n = omega (arith, n)
 
-noted-entry : (t due d : ℕ) (fin dem late : Bool) → (fin ≡ false → leb due (suc t) ≡ late) → noted t fin dem due d ≡ entry t fin dem late d
-noted-entry t due d true dem late h = refl
-noted-entry t due d false dem late h = rw (h refl) (go late)
+noted-entry : (t due d : ℕ) (fin dem missed : Bool) → (fin ≡ false → leb due (suc t) ≡ missed)
+    → noted t fin dem due d ≡ entry t fin dem missed d
+noted-entry t due d true dem missed h = refl
+noted-entry t due d false dem missed h = rw (h refl) (go missed)
   where
     go : (b : Bool) → recordOf (verdictOf 0 b) 0 (pick dem (suc t) d) ≡ recordOf (pick b 2 3) 0 (pick dem (suc t) d)
     go true = refl
@@ -65,29 +66,29 @@ module _ (c : Case) (t i : ℕ) (l : i < maxTasks) where
   abbrev dem : Bool
   dem = demotedAt c t i
 
-  abbrev late : Bool
-  late = missedAt c (suc t) i
+  abbrev missed-next : Bool
+  missed-next = missedAt c (suc t) i
 
-  late-here : late ≡ isMissed (suc t) (pick (ranAt c t i) (workedJob (openAt c t i)) (openAt c t i))
+  missed-here : missed-next ≡ isMissed (suc t) (pick (ranAt c t i) (workedJob (openAt c t i)) (openAt c t i))
   unfolding missedAt missed
-  late-here = ap (isMissed (suc t)) (next-at c i l t)
+  missed-here = ap (isMissed (suc t)) (next-at c i l t)
 
   -- of a task that is not there nothing is written
-  absent : isPresent (openAt c t i) ≡ false → event fin dem late ≡ false
+  absent : isPresent (openAt c t i) ≡ false → event fin dem missed-next ≡ false
   absent e =
       let k = kept-opened (demoting (c .policy)) (lowers (setupIn c) t (releasedAt c t) (stateAt c t)) (readyAt c t i) in
       let r = ran-present c i l t e in
       let a : fin ≡ false = finished-at c i l t ∙ rw r in
       let b : dem ≡ false =
       demoted-at c i l t ∙ rw (absent-demotes (readyAt c t i) (sym (k .there) ∙ e)) (and-false (demoting (c .policy))) in
-      let d : late ≡ false = late-here ∙ rw (r, e) in
+      let d : missed-next ≡ false = missed-here ∙ rw (r, e) in
       rw (a, b, d)
 
-  -- of one that is there and does not finish, lateness is its deadline's
-  late-due : isPresent (openAt c t i) ≡ true → fin ≡ false → t < dueOf (openAt c t i) → leb (dueOf (openAt c t i)) (suc t) ≡ late
-  late-due p e h =
+  -- one that is there and does not finish is missed at t + 1 where its deadline is then
+  missed-due : isPresent (openAt c t i) ≡ true → fin ≡ false → t < dueOf (openAt c t i) → leb (dueOf (openAt c t i)) (suc t) ≡ missed-next
+  missed-due p e h =
       let s = stays (openAt c t i) (ranAt c t i) p (sym (finished-at c i l t) ∙ e) in
-      just-come t (dueOf (openAt c t i)) h ∙ sym (late-here ∙ rw (s .there, s .due))
+      just-come t (dueOf (openAt c t i)) h ∙ sym (missed-here ∙ rw (s .there, s .due))
 
   module _ (g : Legal c) (k : ℕ) (w : Reached (c .trace) k (suc t)) where
     abbrev p : ℕ
@@ -96,19 +97,19 @@ module _ (c : Case) (t i : ℕ) (l : i < maxTasks) where
     pub record Written : Type 0 where
       pub within : p < releaseCount (c .trace)
       pub its : nameOf (c .trace) p ≡ suc i
-      pub new : recordBy c (suc t) p ≡ entry t fin dem late (recordBy c t p .demotion)
+      pub new : recordBy c (suc t) p ≡ entry t fin dem missed-next (recordBy c t p .demotion)
       pub others : (j : ℕ) → j < releaseCount (c .trace) → nameOf (c .trace) j ≡ suc i → (j ≡ p → ⊥) → recordBy c (suc t) j ≡ recordBy c t j
 
     there : isPresent (openAt c t i) ≡ true → Live c g t k w i l → Written
     there e v = record {
       within = v .within;
       its = v .its;
-      new = v .new ∙ noted-entry t (dueOf (openAt c t i)) (recordBy c t p .demotion) fin dem late (λ f. late-due e f (v .early));
+      new = v .new ∙ noted-entry t (dueOf (openAt c t i)) (recordBy c t p .demotion) fin dem missed-next (λ f. missed-due e f (v .early));
       others = v .others;
     }
 
     -- where something is written, it is written of the task's last release
-    pub turn-event : event fin dem late ≡ true → Written
+    pub turn-event : event fin dem missed-next ≡ true → Written
     turn-event e = go (isPresent (openAt c t i)) refl
       where
         go : (b : Bool) → isPresent (openAt c t i) ≡ b → Written
@@ -116,7 +117,7 @@ module _ (c : Case) (t i : ℕ) (l : i < maxTasks) where
         go false q = absurd (true≢false (sym e ∙ absent q))
 
     -- where nothing is, no record of the task changes
-    pub turn-quiet : event fin dem late ≡ false → (j : ℕ) → j < releaseCount (c .trace) → nameOf (c .trace) j ≡ suc i
+    pub turn-quiet : event fin dem missed-next ≡ false → (j : ℕ) → j < releaseCount (c .trace) → nameOf (c .trace) j ≡ suc i
         → recordBy c (suc t) j ≡ recordBy c t j
     turn-quiet e j h q = go (isPresent (openAt c t i)) refl
       where
@@ -129,7 +130,7 @@ module _ (c : Case) (t i : ℕ) (l : i < maxTasks) where
         last : Live c g t k w i l → Written → (b : Bool) → eqb j p ≡ b → recordBy c (suc t) j ≡ recordBy c t j
         last v u true z =
             let y : j ≡ p = eqb-true j p z in
-            rw y (u .new ∙ none fin dem late e (recordBy c t p .demotion) ∙ sym (v .old))
+            rw y (u .new ∙ none fin dem missed-next e (recordBy c t p .demotion) ∙ sym (v .old))
         last v u false z = u .others j h q (eqb-false j p z)
 
         go : (b : Bool) → isPresent (openAt c t i) ≡ b → recordBy c (suc t) j ≡ recordBy c t j

@@ -43,12 +43,12 @@ demotes-within free left e = omega (arith, eqb-true free left e)
 -- a job that is demoted now is there, is not demoted yet, and has no more left than its free count
 pub record Falls (j : Job) : Type 0 where
   pub there : isPresent j ≡ true
-  pub high : isDemoted j ≡ false
+  pub normal : isDemoted j ≡ false
   pub within : leftOf j ≤ freeOf j
 
 pub falls : (j : Job) → isDemotedNow j ≡ true → Falls j
 falls Idle e = absurd (false≢true e)
-falls (Normal l f d) e = record { there = refl; high = refl; within = demotes-within f l e }
+falls (Normal l f d) e = record { there = refl; normal = refl; within = demotes-within f l e }
 falls (Demoted l d) e = absurd (false≢true e)
 
 -- so none is that is absent or demoted already
@@ -64,25 +64,25 @@ demotes-once j e = go (isDemotedNow j) refl
   where
     go : (b : Bool) → isDemotedNow j ≡ b → isDemotedNow j ≡ false
     go false q = q
-    go true q = absurd (true≢false (sym e ∙ falls j q .high))
+    go true q = absurd (true≢false (sym e ∙ falls j q .normal))
 
--- k is j but for its kind and free count, demoted where `low`
-pub record Kept (j k : Job) (low : Bool) : Type 0 where
+-- k is j but for its kind and free count, demoted where `dem`
+pub record Kept (j k : Job) (dem : Bool) : Type 0 where
   pub there : isPresent k ≡ isPresent j
   pub due : dueOf k ≡ dueOf j
   pub left : leftOf k ≡ leftOf j
-  pub lowly : isDemoted k ≡ low
+  pub demoted : isDemoted k ≡ dem
 
 demoting-keeps : (j : Job) → isPresent j ≡ true → Kept j (Demoted (leftOf j) (dueOf j)) true
-demoting-keeps j e = record { there = sym e; due = refl; left = refl; lowly = refl }
+demoting-keeps j e = record { there = sym e; due = refl; left = refl; demoted = refl }
 
 pub kept-demoted : (cf : Bool) (j : Job) → Kept j (demotedJob cf j) (isDemoted j || (cf && isDemotedNow j))
-kept-demoted false j = record { there = refl; due = refl; left = refl; lowly = sym (or-false (isDemoted j)) }
+kept-demoted false j = record { there = refl; due = refl; left = refl; demoted = sym (or-false (isDemoted j)) }
 kept-demoted true j = go (isDemotedNow j) refl
   where
     go : (b : Bool) → isDemotedNow j ≡ b → Kept j (pick b (Demoted (leftOf j) (dueOf j)) j) (isDemoted j || b)
-    go true q = rw (falls j q .high) (demoting-keeps j (falls j q .there))
-    go false q = record { there = refl; due = refl; left = refl; lowly = sym (or-false (isDemoted j)) }
+    go true q = rw (falls j q .normal) (demoting-keeps j (falls j q .there))
+    go false q = record { there = refl; due = refl; left = refl; demoted = sym (or-false (isDemoted j)) }
 
 -- a job that stays normal keeps its free count too
 free-demoted : (cf : Bool) (j : Job) → isDemoted (demotedJob cf j) ≡ false → freeOf (demotedJob cf j) ≡ freeOf j
@@ -95,9 +95,9 @@ free-demoted cf j = go (cf && isDemotedNow j)
 
 -- ---- step 4
 kept-lowered : (j : Job) → Kept j (loweredJob j) (isDemoted j)
-kept-lowered Idle = record { there = refl; due = refl; left = refl; lowly = refl }
-kept-lowered (Normal l f d) = record { there = refl; due = refl; left = refl; lowly = refl }
-kept-lowered (Demoted l d) = record { there = refl; due = refl; left = refl; lowly = refl }
+kept-lowered Idle = record { there = refl; due = refl; left = refl; demoted = refl }
+kept-lowered (Normal l f d) = record { there = refl; due = refl; left = refl; demoted = refl }
+kept-lowered (Demoted l d) = record { there = refl; due = refl; left = refl; demoted = refl }
 
 free-lowered : (j : Job) → freeOf (loweredJob j) ≡ freeOf j - 1
 free-lowered Idle = refl
@@ -110,13 +110,13 @@ kept-opened cf false j = kept-demoted cf j
 kept-opened cf true j =
     let a = kept-demoted cf j in
     let b = kept-lowered (demotedJob cf j) in
-    record { there = b .there ∙ a .there; due = b .due ∙ a .due; left = b .left ∙ a .left; lowly = b .lowly ∙ a .lowly }
+    record { there = b .there ∙ a .there; due = b .due ∙ a .due; left = b .left ∙ a .left; demoted = b .demoted ∙ a .demoted }
 
 -- and step 4 alone lowers the free count of one that stays normal
 pub free-opened : (cf lw : Bool) (j : Job) → isDemoted (openedJob cf lw j) ≡ false → freeOf (openedJob cf lw j) ≡ freeOf j - bit lw
 free-opened cf false j e = free-demoted cf j e ∙ omega arith
 free-opened cf true j e =
-    free-lowered (demotedJob cf j) ∙ ap (λ (f : ℕ). f - 1) (free-demoted cf j (sym (kept-lowered (demotedJob cf j) .lowly) ∙ e))
+    free-lowered (demotedJob cf j) ∙ ap (λ (f : ℕ). f - 1) (free-demoted cf j (sym (kept-lowered (demotedJob cf j) .demoted) ∙ e))
 
 -- ---- step 6: a job whose last unit is worked is gone, and any other goes on with one unit less
 pub done : (o : Job) → isLast o ≡ true → workedJob o ≡ Idle
@@ -127,15 +127,15 @@ done (Demoted l d) e = rw e
 pub record GoesOn (o n : Job) : Type 0 where
   pub there : isPresent n ≡ isPresent o
   pub due : dueOf n ≡ dueOf o
-  pub lowly : isDemoted n ≡ isDemoted o
+  pub demoted : isDemoted n ≡ isDemoted o
   pub free : freeOf n ≡ freeOf o
   pub left : leftOf n ≡ leftOf o - 1
   pub more : 1 < leftOf o
 
 pub goes-on : (o : Job) → isLast o ≡ false → GoesOn o (workedJob o)
 goes-on Idle e = absurd (true≢false e)
-goes-on (Normal l f d) e = rw e (record { there = refl; due = refl; lowly = refl; free = refl; left = refl; more = leb-false l 1 e })
-goes-on (Demoted l d) e = rw e (record { there = refl; due = refl; lowly = refl; free = refl; left = refl; more = leb-false l 1 e })
+goes-on (Normal l f d) e = rw e (record { there = refl; due = refl; demoted = refl; free = refl; left = refl; more = leb-false l 1 e })
+goes-on (Demoted l d) e = rw e (record { there = refl; due = refl; demoted = refl; free = refl; left = refl; more = leb-false l 1 e })
 
 -- one that is there afterwards went on
 pub went-on : (o : Job) → isPresent (workedJob o) ≡ true → GoesOn o (workedJob o)
@@ -170,19 +170,21 @@ written (suc n) = true
 pub record Live (due d : ℕ) (j : Job) : Type 0 where
   pub there : isPresent j ≡ true
   pub its : dueOf j ≡ due
-  pub lowly : isDemoted j ≡ written d
+  pub demoted : isDemoted j ≡ written d
 
 abbrev pub Stand : ℕ → ℕ → ℕ → Job → Type 0
 Stand f d due j = ((f ≡ 0) × Live due d j) ⊎ ((0 < f) × (j ≡ Idle))
 
 live-on : (due d : ℕ) (o : Job) → isLast o ≡ false → Live due d o → Live due d (workedJob o)
-live-on due d o e v = let g = goes-on o e in record { there = g .there ∙ v .there; its = g .due ∙ v .its; lowly = g .lowly ∙ v .lowly }
+live-on due d o e v =
+    let g = goes-on o e in
+    record { there = g .there ∙ v .there; its = g .due ∙ v .its; demoted = g .demoted ∙ v .demoted }
 
 -- where the demotion so far is d, and the step demotes where dm, the demotion after it
-low-next : (d t : ℕ) (b dm : Bool) → b ≡ written d → (b || dm) ≡ written (orElse d dm (suc t))
-low-next zero t b true e = rw e
-low-next zero t b false e = rw e
-low-next (suc d) t b dm e = rw e
+demoted-next : (d t : ℕ) (b dm : Bool) → b ≡ written d → (b || dm) ≡ written (orElse d dm (suc t))
+demoted-next zero t b true e = rw e
+demoted-next zero t b false e = rw e
+demoted-next (suc d) t b dm e = rw e
 
 -- the step law: from what a slot finds after steps 1 and 2 to what it leaves
 pub slot-stand : (cf lw runs : Bool) (f d due t : ℕ) (j : Job) → (isPresent (openedJob cf lw j) ≡ false → runs ≡ false) → Stand f d due j
@@ -197,7 +199,7 @@ slot-stand cf lw runs zero d due t j fair (inl (e, v)) = go runs (isLast (opened
     live = record {
       there = k .there ∙ v .there;
       its = k .due ∙ v .its;
-      lowly = k .lowly ∙ low-next d t (isDemoted j) (cf && isDemotedNow j) (v .lowly);
+      demoted = k .demoted ∙ demoted-next d t (isDemoted j) (cf && isDemotedNow j) (v .demoted);
     }
 
     go : (runs b : Bool) → isLast (openedJob cf lw j) ≡ b

@@ -87,37 +87,37 @@ module _ (f : ℕ → Record) (n : ℕ) (rest : List ℕ) (j : ℕ) (h : j < n) 
   pub held-demotion : getD (numbers (tab f 0 n) ++ rest) (j * recordWidth + 2) 0 ≡ f j .demotion
   held-demotion = demotion-at (tab f 0 n) j rest long ∙ ap (λ (r : Record). r .demotion) held
 
--- ---- what one slot stores, task by task: the sets that finished, were demoted and are late
+-- ---- what one slot stores, task by task: the sets that finished, were demoted and are removed as missed by the next step 1
 abbrev pub eventAt : List Bool → List Bool → List Bool → ℕ → Bool
-eventAt fin dem late i = event (getD fin i false) (getD dem i false) (getD late i false)
+eventAt fin dem missed i = event (getD fin i false) (getD dem i false) (getD missed i false)
 
 unfoldable pub noteOne : ℕ → List ℕ → List Bool → List Bool → List Bool → ℕ → List ℕ → List ℕ
-noteOne t place fin dem late i xs =
-    pick (eventAt fin dem late i)
+noteOne t place fin dem missed i xs =
+    pick (eventAt fin dem missed i)
     (put3 xs (getD place i 0)
-    (entry t (getD fin i false) (getD dem i false) (getD late i false) (getD xs (getD place i 0 * recordWidth + 2) 0))) xs
+    (entry t (getD fin i false) (getD dem i false) (getD missed i false) (getD xs (getD place i 0 * recordWidth + 2) 0))) xs
 
 unfoldable pub noteTo : ℕ → List ℕ → List Bool → List Bool → List Bool → ℕ → List ℕ → List ℕ
-noteTo t place fin dem late zero xs = xs
-noteTo t place fin dem late (suc i) xs = noteOne t place fin dem late i (noteTo t place fin dem late i xs)
+noteTo t place fin dem missed zero xs = xs
+noteTo t place fin dem missed (suc i) xs = noteOne t place fin dem missed i (noteTo t place fin dem missed i xs)
 
 -- where nothing happens to any job nothing is stored
-pub noted-none : (t : ℕ) (place : List ℕ) (fin dem late : List Bool) (n : ℕ) (xs : List ℕ)
-    → ((i : ℕ) → i < n → eventAt fin dem late i ≡ false)
-    → noteTo t place fin dem late n xs ≡ xs
+pub noted-none : (t : ℕ) (place : List ℕ) (fin dem missed : List Bool) (n : ℕ) (xs : List ℕ)
+    → ((i : ℕ) → i < n → eventAt fin dem missed i ≡ false)
+    → noteTo t place fin dem missed n xs ≡ xs
 unfolding noteTo noteOne
-noted-none t place fin dem late zero xs h = refl
-noted-none t place fin dem late (suc n) xs h = rw (h n (omega arith)) (noted-none t place fin dem late n xs (λ i l. h i (omega arith)))
+noted-none t place fin dem missed zero xs h = refl
+noted-none t place fin dem missed (suc n) xs h = rw (h n (omega arith)) (noted-none t place fin dem missed n xs (λ i l. h i (omega arith)))
 
 -- what is handed to the stores is what the slot of the case has
-pub record Handed (c : Case) (t k : ℕ) (place : List ℕ) (fin dem late : List Bool) : Type 0 where
+pub record Handed (c : Case) (t k : ℕ) (place : List ℕ) (fin dem missed : List Bool) : Type 0 where
   pub at-place : (i : ℕ) → i < maxTasks → getD place i 0 ≡ lastPlace (c .trace) k (suc i)
   pub at-fin : (i : ℕ) → i < maxTasks → getD fin i false ≡ finishedAt c t i
   pub at-dem : (i : ℕ) → i < maxTasks → getD dem i false ≡ demotedAt c t i
-  pub at-late : (i : ℕ) → i < maxTasks → getD late i false ≡ missedAt c (suc t) i
+  pub at-missed : (i : ℕ) → i < maxTasks → getD missed i false ≡ missedAt c (suc t) i
 
-module _ (c : Case) (g : Legal c) (t k : ℕ) (w : Reached (c .trace) k (suc t)) (place : List ℕ) (fin dem late : List Bool)
-    (o : Handed c t k place fin dem late) (rest : List ℕ) where
+module _ (c : Case) (g : Legal c) (t k : ℕ) (w : Reached (c .trace) k (suc t)) (place : List ℕ) (fin dem missed : List Bool)
+    (o : Handed c t k place fin dem missed) (rest : List ℕ) where
   abbrev n : ℕ
   n = releaseCount (c .trace)
 
@@ -141,10 +141,10 @@ module _ (c : Case) (g : Legal c) (t k : ℕ) (w : Reached (c .trace) k (suc t))
       go (no a) (no b) = mixed-old i j (omega arith) ∙ sym (mixed-old (suc i) j (omega arith))
 
   one : (i : ℕ) → i < maxTasks
-      → noteOne t place fin dem late i (numbers (tab (mixed i) 0 n) ++ rest) ≡ numbers (tab (mixed (suc i)) 0 n) ++ rest
+      → noteOne t place fin dem missed i (numbers (tab (mixed i) 0 n) ++ rest) ≡ numbers (tab (mixed (suc i)) 0 n) ++ rest
   unfolding noteOne
   one i h =
-      rw (o .at-place i h, o .at-fin i h, o .at-dem i h, o .at-late i h)
+      rw (o .at-place i h, o .at-fin i h, o .at-dem i h, o .at-missed i h)
       (go (event (finishedAt c t i) (demotedAt c t i) (missedAt c (suc t) i)) refl)
     where
       p : ℕ
@@ -177,16 +177,16 @@ module _ (c : Case) (g : Legal c) (t k : ℕ) (w : Reached (c .trace) k (suc t))
           (λ j x y. mixed-more i j (λ q. v .others j x q y)))
 
   all-to : (i : ℕ) → i ≤ maxTasks
-      → noteTo t place fin dem late i (numbers (tab (mixed 0) 0 n) ++ rest) ≡ numbers (tab (mixed i) 0 n) ++ rest
+      → noteTo t place fin dem missed i (numbers (tab (mixed 0) 0 n) ++ rest) ≡ numbers (tab (mixed i) 0 n) ++ rest
   unfolding noteTo
   all-to zero h = refl
-  all-to (suc i) h = ap (noteOne t place fin dem late i) (all-to i (omega arith)) ∙ one i (omega arith)
+  all-to (suc i) h = ap (noteOne t place fin dem missed i) (all-to i (omega arith)) ∙ one i (omega arith)
 
   -- the stores of the slot at t bring the records as they stand at t to those as they stand at t + 1
-  pub noted-all : noteTo t place fin dem late maxTasks (numbers (tab (recordBy c t) 0 n) ++ rest)
+  pub noted-all : noteTo t place fin dem missed maxTasks (numbers (tab (recordBy c t) 0 n) ++ rest)
       ≡ numbers (tab (recordBy c (suc t)) 0 n) ++ rest
   noted-all =
-      ap (λ (l : List Record). noteTo t place fin dem late maxTasks (numbers l ++ rest))
+      ap (λ (l : List Record). noteTo t place fin dem missed maxTasks (numbers l ++ rest))
       (tab-cong (recordBy c t) (mixed 0) 0 n (λ j x y. sym (mixed-old 0 j (omega (arith, g .named j (omega arith)))))) ∙
       all-to maxTasks (omega arith) ∙
       ap (λ (l : List Record). numbers l ++ rest)

@@ -229,6 +229,6 @@ module _ (c : Case) (i a : ℕ) (s : Sole (replayOf c) i a) (pos : 0 < deadline 
                 orElse-none fin (suc (a + n)) (finishedAt c (a + n) i) z,
                 demoted-at c i (s .task) (a + n),
                 slots-at n (omega arith),
-                dem-next (demoting (c .policy)) (readyAt c (a + n) i) dem (suc (a + n)) (v .lowly),
+                dem-next (demoting (c .policy)) (readyAt c (a + n) i) dem (suc (a + n)) (v .demoted),
               );
         }

@@ -161,7 +161,7 @@ module _ (c : Case) (g : Legal c) (clock : ℕ) (more : clock < c .end) (rel : L
       at-place = λ i h. rw p (tab-at (λ i. lastPlace (c .trace) next (suc i)) maxTasks i 0 h);
       at-fin = λ i h. rw (same-step .finished) (tab-at _ maxTasks i false h);
       at-dem = λ i h. rw (same-step .demoted) (tab-at _ maxTasks i false h);
-      at-late = λ i h. rw (same-step .missed-next) (tab-at _ maxTasks i false h)
+      at-missed = λ i h. rw (same-step .missed-next) (tab-at _ maxTasks i false h)
           ∙ ap (λ (r : Run). isMissed (suc clock) (jobAt r i)) next-run;
     }
 
@@ -202,7 +202,7 @@ module _ (c : Case) (g : Legal c) (clock : ℕ) (out : List ℕ) (e : out ≡ ro
     (place : List ℕ) (fs ds ls : List Bool) (o : Handed c clock next place fs ds ls) where
   pub roomy : Roomy place fs ds ls (length out)
   roomy i h x =
-      let l = turn-event c clock i h g next w (rw (o .at-fin i h, o .at-dem i h, o .at-late i h) at x) in
+      let l = turn-event c clock i h g next w (rw (o .at-fin i h, o .at-dem i h, o .at-missed i h) at x) in
       let a = ap length e ∙ length-append (numbers (tab (recordBy c clock) 0 (releaseCount (c .trace))))
       (drop (releaseCount (c .trace) * recordWidth) out) in
       rw (o .at-place i h) (omega (arith, l .within, a, records-long c clock))

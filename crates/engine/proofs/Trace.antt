@@ -22,8 +22,8 @@ use Rattle.engine.specs.Walks.{Orderly, places, releases}
 
 pub record Taking (rs : List ℕ) (clock k : ℕ) (place : List ℕ) (released : List Bool) : Type 0 where
   pub within : k ≤ releaseCount rs
-  pub early : (j : ℕ) → j < k → timeOf rs j < suc clock
-  pub late : (j : ℕ) → k ≤ j → j < releaseCount rs → clock ≤ timeOf rs j
+  pub before : (j : ℕ) → j < k → timeOf rs j < suc clock
+  pub behind : (j : ℕ) → k ≤ j → j < releaseCount rs → clock ≤ timeOf rs j
   pub at-place : place ≡ places rs k
   pub at-released : released ≡ releases rs k clock
 
@@ -34,8 +34,8 @@ pub taking-none : (rs : List ℕ) (clock from : ℕ) (place : List ℕ) → Reac
     → Taking rs clock from place (tab (λ i. false) 0 maxTasks)
 taking-none rs clock from place w e = record {
   within = w .within;
-  early = λ j h. omega (arith, w .before j h);
-  late = w .behind;
+  before = λ j h. omega (arith, w .before j h);
+  behind = w .behind;
   at-place = e;
   at-released = sym (tab-cong (releasedIn rs from clock) (λ i. false) 0 maxTasks
       (λ i p q. released-no rs from clock i (λ j h x y. omega (arith, w .before j h))));
@@ -73,8 +73,8 @@ taking-more rs clock k v place released u h e z w =
     let small : v < maxTasks = omega arith in
     rw (add-one k) (record {
       within = omega arith;
-      early = λ j l. early j (eq-or-lt-of-le {n = j} {m = k} (omega arith));
-      late = λ j l m. w .late j (omega arith) m;
+      before = λ j l. before j (eq-or-lt-of-le {n = j} {m = k} (omega arith));
+      behind = λ j l m. w .behind j (omega arith) m;
       at-place = rw (w .at-place) (rw (place-new rs k (suc v) name) at
           (tab-set (λ i. lastPlace rs k (suc i)) (λ i. lastPlace rs (suc k) (suc i)) maxTasks v small
           (λ i l q. sym (place-old rs k (suc i) (λ x. q (omega arith))))));
@@ -83,9 +83,9 @@ taking-more rs clock k v place released u h e z w =
           (λ i l q. sym (released-old rs k clock i (λ x y. q (omega arith))))));
     })
   where
-    early : (j : ℕ) → (j ≡ k) ⊎ (j < k) → timeOf rs j < suc clock
-    early j (inl x) = omega (arith, ap (timeOf rs) x)
-    early j (inr x) = w .early j x
+    before : (j : ℕ) → (j ≡ k) ⊎ (j < k) → timeOf rs j < suc clock
+    before j (inl x) = omega (arith, ap (timeOf rs) x)
+    before j (inr x) = w .before j x
 
 -- no release of the time from k on
 released-rest : (rs : List ℕ) (k t i d : ℕ) → ((j : ℕ) → k ≤ j → j < k + d → timeOf rs j ≡ t → ⊥)
@@ -107,7 +107,7 @@ pub taking-done : (rs : List ℕ) (clock k : ℕ) (place : List ℕ) (released :
 taking-done rs clock k place released u stop w =
     let z : k + (releaseCount rs - k) ≡ releaseCount rs = omega (arith, w .within) in
     record {
-      reached = record { within = w .within; before = w .early; behind = later };
+      reached = record { within = w .within; before = w .before; behind = later };
       at-place = w .at-place;
       at-released = w .at-released ∙
           tab-cong (releasedIn rs k clock) (releasedIn rs (releaseCount rs) clock) 0 maxTasks
@@ -119,4 +119,4 @@ taking-done rs clock k place released u stop w =
       where
         go : Dec (clock < timeOf rs k) → suc clock ≤ timeOf rs j
         go (yes x) = omega (arith, u .sorted k j p q)
-        go (no x) = absurd (stop (omega arith) (omega (arith, w .late k (omega arith) (omega arith))))
+        go (no x) = absurd (stop (omega arith) (omega (arith, w .behind k (omega arith) (omega arith))))

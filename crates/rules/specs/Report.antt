@@ -1,5 +1,5 @@
 -- What the program prints (document 01, "The case text", from "The program reads a case" on): the lines run, job, total and refused, byte
--- for byte, and what is printed of a whole text. The contracts of the crates prints, report and program are equations with these.
+-- for byte, and what is printed of a whole text. The contracts of the crates prints, report and answers are equations with these.
 use Prim.Native.Nat.{ℕ, zero, suc, _+_, _-_}
 use mathlib.Core.List.{List, [], _∷_, _++_}
 use lib.Dec.{eqb}

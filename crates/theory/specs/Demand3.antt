@@ -23,7 +23,7 @@ use Rattle.bridge.specs.Records.{taskAt, sole}
 use Rattle.theory.specs.Counting.{count-cong, first-in}
 use Rattle.theory.specs.Lawful.{Lawful, Attends, replay-free, replay-attends}
 use Rattle.theory.specs.Enough.{enough}
-use Rattle.theory.specs.Story.{story, Attended, low-finishes}
+use Rattle.theory.specs.Story.{story, Attended, story-finishes}
 use Rattle.theory.specs.Demoted.{Alone, demoted-finishes}
 use Rattle.theory.specs.Dominance.{Dom, dominated}
 use Rattle.theory.specs.Accept.{alone, lawful, accepted-under, finish-same, demotion-same, stand-due, none-demoted-due}
@@ -36,7 +36,7 @@ use Rattle.theory.specs.Verdicts.{met-by-finish, finish-of-met}
 -- finds it there, then, once demoted, it is finished after D slots. How F comes about is not asked, nor what the other jobs do.
 pub any-count-finishes : (calm works : ℕ → Bool) (a C F due D : ℕ) → 1 ≤ C → Attended calm works a (Normal C F due) D → F ≤ countIn calm a D
     → (n : ℕ) → n ≤ D → isDemoted (story calm works a (Normal C F due) n) ≡ true → story calm works a (Normal C F due) D ≡ Idle
-any-count-finishes calm works a C F due D some att enough n h low = low-finishes calm works a C F due D some att enough n h low
+any-count-finishes calm works a C F due D some att enough n h dem = story-finishes calm works a C F due D some att enough n h dem
 
 -- ---- any course: slots in which any sets are worked
 
@@ -130,11 +130,11 @@ edf-met-stays-met c ok cf j h e = go (stand-due E e-legal j (h .0) (c .end) (h .
 
     -- what is idle under EDF and there under the policy is demoted
     only-demoted : (x y : Job) → Dom x y → x ≡ Idle → isPresent y ≡ true → isDemoted y ≡ true
-    only-demoted x y d z p = low (isDemoted y) refl
+    only-demoted x y d z p = said (isDemoted y) refl
       where
-        low : (b : Bool) → isDemoted y ≡ b → isDemoted y ≡ true
-        low true q = q
-        low false q = absurd (true≢false (sym (d p q .there) ∙ ap isPresent z))
+        said : (b : Bool) → isDemoted y ≡ b → isDemoted y ≡ true
+        said true q = q
+        said false q = absurd (true≢false (sym (d p q .there) ∙ ap isPresent z))
 
     go : Stand (finishBy E i a (c .end)) (demotionBy E i a (c .end)) due (jobAt (stateAt E due) i)
         → Stand (finishBy c i a (c .end)) (demotionBy c i a (c .end)) due (jobAt (stateAt c due) i)

@@ -14,7 +14,7 @@ use Rattle.rules.specs.Slot.{jobAt, isPresent, isDemoted, freeCountIn, released
 use Rattle.bridge.specs.Jobs.{Stand, written}
 use Rattle.bridge.specs.Course.{Course, stateIn, contentionFreeIn, finishIn, demotionIn, foundIn, next-in, Sole, left-stands, found-next}
 use Rattle.theory.specs.Lawful.{Attends, present-in}
-use Rattle.theory.specs.Story.{story, Attended, none-low}
+use Rattle.theory.specs.Story.{story, Attended, story-none-demoted}
 
 -- a job of the task at i is released at a, and nothing more of the task before that job's deadline
 pub record Alone (k : Course) (i a : ℕ) : Type 0 where
@@ -62,7 +62,7 @@ module _ (k : Course) (i a : ℕ) (s : Alone k i a) where
     module _ (enough : freeCountIn (k .setup) i ≤ countIn (contentionFreeIn k) a (deadline (k .setup .table) i)) where
       -- at its deadline the job is not there as a demoted one
       pub none-demoted : isDemoted (jobAt (stateIn k (a + deadline (k .setup .table) i)) i) ≡ true → ⊥
-      none-demoted = rw due-told (none-low (contentionFreeIn k)
+      none-demoted = rw due-told (story-none-demoted (contentionFreeIn k)
           (λ t. k .works t i) a (execution (k .setup .table) i) _ (a + D) D (s .some) attended enough)
 
       -- so it has finished if it was demoted
@@ -75,4 +75,4 @@ module _ (k : Course) (i a : ℕ) (s : Alone k i a) where
 
           go : Stand (finishIn k i a) (demotionIn k i a) (a + D) (jobAt (stateIn k (a + D)) i) → 0 < finishIn k i a
           go (inr (p, e)) = p
-          go (inl (z, v)) = absurd (none-demoted (v .lowly ∙ some (demotionIn k i a) d))
+          go (inl (z, v)) = absurd (none-demoted (v .demoted ∙ some (demotionIn k i a) d))

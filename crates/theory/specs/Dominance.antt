@@ -24,7 +24,7 @@ use Rattle.theory.specs.Counting.{and-both, count-mono}
 -- the job a is there, is normal, has the deadline of b and at least as much left
 pub record Above (a b : Job) : Type 0 where
   pub there : isPresent a ≡ true
-  pub high : isDemoted a ≡ false
+  pub normal : isDemoted a ≡ false
   pub due : dueOf a ≡ dueOf b
   pub left : leftOf b ≤ leftOf a
 
@@ -47,22 +47,22 @@ dom-judged t a b h = go (isMissed t b) refl
 dom-opened : (cf calm : Bool) (a b : Job) → Dom a b → Dom a (openedJob cf calm b)
 dom-opened cf calm a b h p q =
     let k = kept-opened cf calm b in
-    let d = h (sym (k .there) ∙ p) (or-left (isDemoted b) _ (sym (k .lowly) ∙ q)) in
-    record { there = d .there; high = d .high; due = d .due ∙ sym (k .due); left = omega (arith, d .left, k .left) }
+    let d = h (sym (k .there) ∙ p) (or-left (isDemoted b) _ (sym (k .demoted) ∙ q)) in
+    record { there = d .there; normal = d .normal; due = d .due ∙ sym (k .due); left = omega (arith, d .left, k .left) }
 
 -- ---- step 5: whoever comes before a normal job under a policy that demotes comes before it under EDF
 before : (p now : ℕ) (x y a b : Job) (j i : ℕ) → demoting p ≡ true → Dom x y → Dom a b → isPresent b ≡ true → isDemoted b ≡ false
     → jobBefore p now y j b i ≡ true → jobBefore edf now x j a i ≡ true
 unfolding jobBefore
-before p now x y a b j i cf over-y over-b there high e = go (isDemoted y) refl (and-left (isPresent y) _ e)
+before p now x y a b j i cf over-y over-b there normal e = go (isDemoted y) refl (and-left (isPresent y) _ e)
   where
     go : (z : Bool) → isDemoted y ≡ z → isPresent y ≡ true → jobBefore edf now x j a i ≡ true
-    go true q here = absurd (false≢true (rw (here, kind-demoted p now y q, kind-normal p now b there high) at e))
+    go true q here = absurd (false≢true (rw (here, kind-demoted p now y q, kind-normal p now b there normal) at e))
     go false q here =
         let u = over-y here q in
-        let v = over-b there high in
-        rw (u .there, kind-normal edf now x (u .there) (u .high), kind-normal edf now a (v .there) (v .high), u .due, v .due)
-        (rw (here, kind-normal p now y here q, kind-normal p now b there high) at e)
+        let v = over-b there normal in
+        rw (u .there, kind-normal edf now x (u .there) (u .normal), kind-normal edf now a (v .there) (v .normal), u .due, v .due)
+        (rw (here, kind-normal p now y here q, kind-normal p now b there normal) at e)
 
 -- ---- step 6
 dom-worked : (ra rb : Bool) (a b : Job) → Dom a b → (isPresent b ≡ true → isDemoted b ≡ false → ra ≡ true → rb ≡ true)
@@ -71,15 +71,15 @@ dom-worked true false a b h r p q = absurd (false≢true (r p q refl))
 dom-worked false false a b h r p q = h p q
 dom-worked false true a b h r p q =
     let w = went-on b p in
-    let d = h (sym (w .there) ∙ p) (sym (w .lowly) ∙ q) in
-    record { there = d .there; high = d .high; due = d .due ∙ sym (w .due); left = omega (arith, d .left, w .left) }
+    let d = h (sym (w .there) ∙ p) (sym (w .demoted) ∙ q) in
+    record { there = d .there; normal = d .normal; due = d .due ∙ sym (w .due); left = omega (arith, d .left, w .left) }
 dom-worked true true a b h r p q =
     let w = went-on b p in
-    let d = h (sym (w .there) ∙ p) (sym (w .lowly) ∙ q) in
+    let d = h (sym (w .there) ∙ p) (sym (w .demoted) ∙ q) in
     let g = goes-on a (more-goes-on a (omega (arith, d .left, w .more))) in
     record {
       there = g .there ∙ d .there;
-      high = g .lowly ∙ d .high;
+      normal = g .demoted ∙ d .normal;
       due = g .due ∙ d .due ∙ sym (w .due);
       left = omega (arith, d .left, w .left, g .left);
     }
@@ -94,7 +94,7 @@ module _ (c : Case) (cf : demoting (c .policy) ≡ true) where
     where
       go : (x : Bool) → Dom (pick x (releasedJob (setupIn E) t i) (judgedJob t (jobAt (stateAt E t) i)))
           (pick x (releasedJob (setupIn c) t i) (judgedJob t (jobAt (stateAt c t) i)))
-      go true = λ p q. record { there = refl; high = refl; due = refl; left = omega arith }
+      go true = λ p q. record { there = refl; normal = refl; due = refl; left = omega arith }
       go false = dom-judged t (jobAt (stateAt E t) i) (jobAt (stateAt c t) i) h
 
   open-dom : (t i : ℕ) → Dom (readyAt E t i) (readyAt c t i) → Dom (openAt E t i) (openAt c t i)

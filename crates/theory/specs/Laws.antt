@@ -48,7 +48,7 @@ at-most-run c t = omega (arith, exactly-run c t)
 pub normal-first : (c : Case) (t i j : ℕ) → j < maxTasks → ranAt c t i ≡ true → isDemoted (jobAt (openedAt c t) i) ≡ true
     → present (openedAt c t) j ≡ true → isDemoted (jobAt (openedAt c t) j) ≡ false → ranAt c t j ≡ true
 unfolding ranAt ran
-normal-first c t i j l e low there high = demoted-last (setupIn c) t (openedAt c t) j i l e low there high
+normal-first c t i j l e dem there norm = demoted-last (setupIn c) t (openedAt c t) j i l e dem there norm
 
 -- ---- totals
 -- every release is met, missed or open

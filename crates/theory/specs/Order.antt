@@ -132,8 +132,8 @@ module _ (g : Setup) (now : ℕ) (r : Run) where
       → isDemoted (jobAt r j) ≡ false
       → chosen g now r j ≡ true
   unfolding present jobBefore
-  demoted-last j i l e low there high =
+  demoted-last j i l e dem there norm =
       let first : comesBefore g now r j i ≡ true =
-      rw (there, kind-normal (g .policy) now (jobAt r j) there high, kind-demoted (g .policy) now (jobAt r i) low)
+      rw (there, kind-normal (g .policy) now (jobAt r j) there norm, kind-demoted (g .policy) now (jobAt r i) dem)
       in
       chosen-down j i l first e

@@ -44,9 +44,9 @@ owed-opened : (F s : ℕ) (calm : Bool) (j : Job) → Owes F s s j → Owes F (s
 owed-opened F s calm j o = record {
   some = omega (arith, o .some, k .left);
   counts = λ e.
-      let was = o .counts (or-left (isDemoted j) _ (sym (k .lowly) ∙ e)) in
+      let was = o .counts (or-left (isDemoted j) _ (sym (k .demoted) ∙ e)) in
       omega (arith, free-opened true calm j e, was);
-  covered = λ e. covers (or-cases (isDemoted j) (isDemotedNow j) (sym (k .lowly) ∙ e));
+  covered = λ e. covers (or-cases (isDemoted j) (isDemotedNow j) (sym (k .demoted) ∙ e));
 }
   where
     k : Kept j (openedJob true calm j) (isDemoted j || isDemotedNow j)
@@ -54,14 +54,14 @@ owed-opened F s calm j o = record {
 
     covers : (isDemoted j ≡ true) ⊎ (isDemotedNow j ≡ true) → leftOf (openedJob true calm j) ≤ F - s
     covers (inl e) = omega (arith, k .left, o .covered e)
-    covers (inr e) = let f = falls j e in omega (arith, k .left, f .within, o .counts (f .high))
+    covers (inr e) = let f = falls j e in omega (arith, k .left, f .within, o .counts (f .normal))
 
 -- step 6: a job that goes on has one unit less left, which makes up for one slot
 owed-worked : (F s u : ℕ) (j n : Job) → s ≤ suc u → Owes F s u j → GoesOn j n → Owes F s s n
 owed-worked F s u j n h o w = record {
   some = omega (arith, w .more, w .left);
-  counts = λ e. w .free ∙ o .counts (sym (w .lowly) ∙ e);
-  covered = λ e. omega (arith, o .covered (sym (w .lowly) ∙ e), w .left, w .more);
+  counts = λ e. w .free ∙ o .counts (sym (w .demoted) ∙ e);
+  covered = λ e. omega (arith, o .covered (sym (w .demoted) ∙ e), w .left, w .more);
 }
 
 owed-slot : (F s : ℕ) (calm runs : Bool) (j : Job) → (calm ≡ true → isPresent j ≡ true → runs ≡ true) → Owed F s j
@@ -80,15 +80,16 @@ owed-slot F s false false j h o p =
     rw z (rw z at (owed-opened F s false j (o (sym (kept-opened true false j .there) ∙ p))))
 
 -- ---- a demoted job stays demoted while it is there
-abbrev Low : Job → Type 0
-Low j = isPresent j ≡ true → isDemoted j ≡ true
+abbrev StillDemoted : Job → Type 0
+StillDemoted j = isPresent j ≡ true → isDemoted j ≡ true
 
-low-opened : (calm : Bool) (j : Job) → Low j → Low (openedJob true calm j)
-low-opened calm j h p = let k = kept-opened true calm j in k .lowly ∙ rw (h (sym (k .there) ∙ p))
+demoted-opened : (calm : Bool) (j : Job) → StillDemoted j → StillDemoted (openedJob true calm j)
+demoted-opened calm j h p = let k = kept-opened true calm j in k .demoted ∙ rw (h (sym (k .there) ∙ p))
 
-low-slot : (calm works : Bool) (j : Job) → Low j → Low (pick works (workedJob (openedJob true calm j)) (openedJob true calm j))
-low-slot calm true j h p = let w = went-on (openedJob true calm j) p in w .lowly ∙ low-opened calm j h (sym (w .there) ∙ p)
-low-slot calm false j h p = low-opened calm j h p
+demoted-slot : (calm works : Bool) (j : Job) → StillDemoted j
+    → StillDemoted (pick works (workedJob (openedJob true calm j)) (openedJob true calm j))
+demoted-slot calm true j h p = let w = went-on (openedJob true calm j) p in w .demoted ∙ demoted-opened calm j h (sym (w .there) ∙ p)
+demoted-slot calm false j h p = demoted-opened calm j h p
 
 -- ---- the whole story
 module _ (calm works : ℕ → Bool) (a C F due D : ℕ) (some : 1 ≤ C) (attended : Attended calm works a (Normal C F due) D) where
@@ -101,27 +102,27 @@ module _ (calm works : ℕ → Bool) (a C F due D : ℕ) (some : 1 ≤ C) (atten
   owed (suc n) h p =
       owed-slot F (countIn calm a n) (calm (a + n)) (works (a + n)) (story calm works a j n) (attended n h) (owed n (omega arith)) p
 
-  low-from : (n d : ℕ) → Low (story calm works a j n) → Low (story calm works a j (n + d))
+  demoted-from : (n d : ℕ) → StillDemoted (story calm works a j n) → StillDemoted (story calm works a j (n + d))
   unfolding story
-  low-from n zero h = rw (add-zero n) h
-  low-from n (suc d) h = rw (add-suc n d)
-      (low-slot (calm (a + (n + d))) (works (a + (n + d))) (story calm works a j (n + d)) (low-from n d h))
+  demoted-from n zero h = rw (add-zero n) h
+  demoted-from n (suc d) h = rw (add-suc n d)
+      (demoted-slot (calm (a + (n + d))) (works (a + (n + d))) (story calm works a j (n + d)) (demoted-from n d h))
 
   module _ (enough : F ≤ countIn calm a D) where
     -- after D slots the job is not there as a demoted one
-    pub none-low : isDemoted (story calm works a (Normal C F due) D) ≡ true → ⊥
-    none-low e =
+    pub story-none-demoted : isDemoted (story calm works a (Normal C F due) D) ≡ true → ⊥
+    story-none-demoted e =
         let o = owed D (omega arith) (demoted-there (story calm works a j D) e) in
         omega (arith, o .some, o .covered e)
 
     -- so if it is demoted at any time up to then, it is finished by then
-    pub low-finishes : (n : ℕ) → n ≤ D → isDemoted (story calm works a (Normal C F due) n) ≡ true
+    pub story-finishes : (n : ℕ) → n ≤ D → isDemoted (story calm works a (Normal C F due) n) ≡ true
         → story calm works a (Normal C F due) D ≡ Idle
-    low-finishes n h e = go (isPresent (story calm works a j D)) refl
+    story-finishes n h e = go (isPresent (story calm works a j D)) refl
       where
-        low : Low (story calm works a j D)
-        low = let z : n + (D - n) ≡ D = omega arith in rw z at (low-from n (D - n) (λ p. e))
+        still : StillDemoted (story calm works a j D)
+        still = let z : n + (D - n) ≡ D = omega arith in rw z at (demoted-from n (D - n) (λ p. e))
 
         go : (b : Bool) → isPresent (story calm works a j D) ≡ b → story calm works a j D ≡ Idle
         go false q = idle-now (story calm works a j D) q
-        go true q = absurd (none-low (low q))
+        go true q = absurd (story-none-demoted (still q))
