@@ -72,6 +72,10 @@ foundIn k t i = readiedJob (k .setup) t (k .released t) (stateIn k t) i
 abbrev pub openIn : Course → ℕ → ℕ → Job
 openIn k t i = openedJob (demoting (k .setup .policy)) (demoting (k .setup .policy) && contentionFreeIn k t) (foundIn k t i)
 
+-- before the first slot every task is idle
+pub fresh-idle : (i : ℕ) → i < maxTasks → jobAt fresh i ≡ Idle
+fresh-idle i l = ap (λ (t : Task). t .job) (tab-at idleTask maxTasks i noTask l)
+
 module _ (k : Course) where
   pub course-full : (t : ℕ) → Full (stateIn k t)
   unfolding stateIn
@@ -80,7 +84,7 @@ module _ (k : Course) where
 
   pub course-first : (i : ℕ) → i < maxTasks → jobAt (stateIn k 0) i ≡ Idle
   unfolding stateIn
-  course-first i l = ap (λ (t : Task). t .job) (tab-at idleTask maxTasks i noTask l)
+  course-first i l = fresh-idle i l
 
   module _ (t i : ℕ) (l : i < maxTasks) where
     pub open-in : jobAt (openedIn k t) i ≡ openIn k t i

@@ -52,19 +52,18 @@ falls (Normal l f d) e = record { there = refl; normal = refl; within = demotes-
 falls (Demoted l d) e = absurd (false≢true e)
 
 -- so none is that is absent or demoted already
-pub absent-demotes : (j : Job) → isPresent j ≡ false → isDemotedNow j ≡ false
-absent-demotes j e = go (isDemotedNow j) refl
+not-falling : (j : Job) → (Falls j → ⊥) → isDemotedNow j ≡ false
+not-falling j h = go (isDemotedNow j) refl
   where
     go : (b : Bool) → isDemotedNow j ≡ b → isDemotedNow j ≡ false
     go false q = q
-    go true q = absurd (true≢false (sym (falls j q .there) ∙ e))
+    go true q = absurd (h (falls j q))
+
+pub absent-demotes : (j : Job) → isPresent j ≡ false → isDemotedNow j ≡ false
+absent-demotes j e = not-falling j (λ f. true≢false (sym (f .there) ∙ e))
 
 pub demotes-once : (j : Job) → isDemoted j ≡ true → isDemotedNow j ≡ false
-demotes-once j e = go (isDemotedNow j) refl
-  where
-    go : (b : Bool) → isDemotedNow j ≡ b → isDemotedNow j ≡ false
-    go false q = q
-    go true q = absurd (true≢false (sym e ∙ falls j q .normal))
+demotes-once j e = not-falling j (λ f. true≢false (sym e ∙ f .normal))
 
 -- k is j but for its kind and free count, demoted where `dem`
 pub record Kept (j k : Job) (dem : Bool) : Type 0 where

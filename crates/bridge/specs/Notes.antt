@@ -4,7 +4,7 @@ use mathlib.Core.Path.{_≡_, refl, ap, sym, _∙_}
 use mathlib.Core.Bool.{Bool, true, false}
 use mathlib.Core.List.{List, [], _∷_, _++_}
 use Prim.Native.Nat.{ℕ, zero, suc, _+_, _-_, _*_, _≤_, _<_}
-use native.Mathlib.Nat.{not-suc-le-zero, zero-add}
+use native.Mathlib.Nat.{not-suc-le-zero}
 use native.Mathlib.Decide.{decLe}
 use native.Mathlib.Omega.{arith}
 use lib.Dec.{eqb, ltb}
@@ -15,7 +15,7 @@ use Rattle.rules.specs.Limits.{maxTasks, recordWidth}
 use Rattle.rules.specs.Case.{Case, releaseCount, nameOf}
 use Rattle.rules.specs.Replay.{finishedAt, missedAt, demotedAt, Record, recordOf, recordBy, numbers, marked}
 use Rattle.lists.specs.Lists.{tab-long, tab-at, tab-cong, tab-set}
-use Rattle.lists.specs.Sums.{sum-cong}
+use Rattle.lists.specs.Sums.{sum-cong, sum-head, sum-shift}
 use Rattle.legal.specs.Legal.{Legal}
 use Rattle.bridge.specs.Events.{event, entry, turn-event, turn-quiet}
 use Rattle.bridge.specs.Turn.{lastPlace, Reached}
@@ -24,7 +24,7 @@ use Rattle.bridge.specs.Turn.{lastPlace, Reached}
 unfoldable pub put3 : List ℕ → ℕ → Record → List ℕ
 put3 xs p r = set (set (set xs (p * recordWidth) (r .verdict)) (p * recordWidth + 1) (r .finish)) (p * recordWidth + 2) (r .demotion)
 
-abbrev noRecord : Record
+abbrev pub noRecord : Record
 noRecord = recordOf 0 0 0
 
 pub numbers-long : (rs : List Record) → length (numbers rs) ≡ length rs * recordWidth
@@ -32,60 +32,45 @@ unfolding numbers
 numbers-long [] = refl
 numbers-long (r ∷ rs) = omega (arith, numbers-long rs)
 
+-- the place of the next record
+next-place : (p : ℕ) → suc p * recordWidth ≡ suc (suc (suc (p * recordWidth)))
+next-place p = omega arith
+
+next-plus : (p k : ℕ) → suc p * recordWidth + k ≡ suc (suc (suc (p * recordWidth + k)))
+next-plus p k = omega arith
+
 put3-at : (rs : List Record) (p : ℕ) (r : Record) (rest : List ℕ) → p < length rs
     → put3 (numbers rs ++ rest) p r ≡ numbers (set rs p r) ++ rest
 unfolding put3 numbers
 put3-at [] p r rest h = absurd (not-suc-le-zero h)
 put3-at (x ∷ rs) zero r rest h = refl
 put3-at (x ∷ rs) (suc p) r rest h =
-    let e2 : suc p * recordWidth + 2 ≡ suc (suc (suc (p * recordWidth + 2))) = omega arith in
-    let e1 : suc p * recordWidth + 1 ≡ suc (suc (suc (p * recordWidth + 1))) = omega arith in
-    let e : suc p * recordWidth ≡ suc (suc (suc (p * recordWidth))) = omega arith in
-    rw (e2, e1, e) (ap (λ (l : List ℕ). x .verdict ∷ x .finish ∷ x .demotion ∷ l) (put3-at rs p r rest (omega arith)))
+    rw (next-plus p 2, next-plus p 1, next-place p)
+    (ap (λ (l : List ℕ). x .verdict ∷ x .finish ∷ x .demotion ∷ l) (put3-at rs p r rest (omega arith)))
 
-demotion-at : (rs : List Record) (p : ℕ) (rest : List ℕ) → p < length rs
-    → getD (numbers rs ++ rest) (p * recordWidth + 2) 0 ≡ getD rs p noRecord .demotion
-unfolding numbers
-demotion-at [] p rest h = absurd (not-suc-le-zero h)
-demotion-at (x ∷ rs) zero rest h = refl
-demotion-at (x ∷ rs) (suc p) rest h =
-    let e : suc p * recordWidth + 2 ≡ suc (suc (suc (p * recordWidth + 2))) = omega arith in
-    rw e (demotion-at rs p rest (omega arith))
+-- the record at place p of a room
+abbrev pub recordAt : List ℕ → ℕ → Record
+recordAt xs p = recordOf (getD xs (p * recordWidth) 0) (getD xs (p * recordWidth + 1) 0) (getD xs (p * recordWidth + 2) 0)
 
-finish-at : (rs : List Record) (p : ℕ) (rest : List ℕ) → p < length rs
-    → getD (numbers rs ++ rest) (p * recordWidth + 1) 0 ≡ getD rs p noRecord .finish
+pub numbers-at : (rs : List Record) (p : ℕ) (rest : List ℕ) → p < length rs → recordAt (numbers rs ++ rest) p ≡ getD rs p noRecord
 unfolding numbers
-finish-at [] p rest h = absurd (not-suc-le-zero h)
-finish-at (x ∷ rs) zero rest h = refl
-finish-at (x ∷ rs) (suc p) rest h =
-    let e : suc p * recordWidth + 1 ≡ suc (suc (suc (p * recordWidth + 1))) = omega arith in
-    rw e (finish-at rs p rest (omega arith))
-
-verdict-at : (rs : List Record) (p : ℕ) (rest : List ℕ) → p < length rs
-    → getD (numbers rs ++ rest) (p * recordWidth) 0 ≡ getD rs p noRecord .verdict
-unfolding numbers
-verdict-at [] p rest h = absurd (not-suc-le-zero h)
-verdict-at (x ∷ rs) zero rest h = refl
-verdict-at (x ∷ rs) (suc p) rest h =
-    let e : suc p * recordWidth ≡ suc (suc (suc (p * recordWidth))) = omega arith in
-    rw e (verdict-at rs p rest (omega arith))
+numbers-at [] p rest h = absurd (not-suc-le-zero h)
+numbers-at (x ∷ rs) zero rest h = refl
+numbers-at (x ∷ rs) (suc p) rest h = rw (next-plus p 2, next-plus p 1, next-place p) (numbers-at rs p rest (omega arith))
 
 -- the three numbers of release j in a room that holds the records of a case
 module _ (f : ℕ → Record) (n : ℕ) (rest : List ℕ) (j : ℕ) (h : j < n) where
-  held : getD (tab f 0 n) j noRecord ≡ f j
-  held = tab-at f n j noRecord h
-
-  long : j < length (tab f 0 n)
-  long = rw (tab-long f 0 n) h
+  pub held : recordAt (numbers (tab f 0 n) ++ rest) j ≡ f j
+  held = numbers-at (tab f 0 n) j rest (rw (tab-long f 0 n) h) ∙ tab-at f n j noRecord h
 
   pub held-verdict : getD (numbers (tab f 0 n) ++ rest) (j * recordWidth) 0 ≡ f j .verdict
-  held-verdict = verdict-at (tab f 0 n) j rest long ∙ ap (λ (r : Record). r .verdict) held
+  held-verdict = ap (λ (r : Record). r .verdict) held
 
   pub held-finish : getD (numbers (tab f 0 n) ++ rest) (j * recordWidth + 1) 0 ≡ f j .finish
-  held-finish = finish-at (tab f 0 n) j rest long ∙ ap (λ (r : Record). r .finish) held
+  held-finish = ap (λ (r : Record). r .finish) held
 
   pub held-demotion : getD (numbers (tab f 0 n) ++ rest) (j * recordWidth + 2) 0 ≡ f j .demotion
-  held-demotion = demotion-at (tab f 0 n) j rest long ∙ ap (λ (r : Record). r .demotion) held
+  held-demotion = ap (λ (r : Record). r .demotion) held
 
 -- ---- what one slot stores, task by task: the sets that finished, were demoted and are removed as missed by the next step 1
 abbrev pub eventAt : List Bool → List Bool → List Bool → ℕ → Bool
@@ -163,14 +148,12 @@ module _ (c : Case) (g : Legal c) (t k : ℕ) (w : Reached (c .trace) k (suc t))
       go true e =
           let v = turn-event c t i h g k w e in
           let long : p < length (tab (mixed i) 0 n) = rw (tab-long (mixed i) 0 n) (v .within) in
-          let old : getD (tab (mixed i) 0 n) p noRecord ≡ recordBy c t p =
-          tab-at (mixed i) n p noRecord (v .within) ∙ mixed-old i p (omega (arith, v .its)) in
           let new : entry t (finishedAt c t i) (demotedAt c t i) (missedAt c (suc t) i) (recordBy c t p .demotion) ≡ mixed (suc i) p =
           sym (v .new) ∙ sym (mixed-new (suc i) p (omega (arith, v .its)))
           in
           let xs = numbers (tab (mixed i) 0 n) ++ rest in
           let d : getD xs (p * recordWidth + 2) 0 ≡ recordBy c t p .demotion =
-          demotion-at (tab (mixed i) 0 n) p rest long ∙ ap (λ (r : Record). r .demotion) old in
+          held-demotion (mixed i) n rest p (v .within) ∙ ap (λ (r : Record). r .demotion) (mixed-old i p (omega (arith, v .its))) in
           ap (λ (x : ℕ). put3 xs p (entry t (finishedAt c t i) (demotedAt c t i) (missedAt c (suc t) i) x)) d ∙
           ap (put3 xs p) new ∙ put3-at (tab (mixed i) 0 n) p (mixed (suc i) p) rest long ∙
           ap (λ (l : List Record). numbers l ++ rest) (tab-set (mixed i) (mixed (suc i)) n p (v .within)
@@ -194,18 +177,14 @@ module _ (c : Case) (g : Legal c) (t k : ℕ) (w : Reached (c .trace) k (suc t))
       (λ j x y. mixed-new maxTasks j (omega (arith, g .named j (omega arith), g .tasks-few))))
 
 -- ---- totals read off the room
-sum-head : (f : ℕ → ℕ) (l : ℕ) → sum f 0 (suc l) ≡ f 0 + sum (λ t. f (suc t)) 0 l
-unfolding sum
-sum-head f zero = omega arith
-sum-head f (suc l) = rw (zero-add (suc l), zero-add l) (omega (arith, zero-add l, sum-head f l, ap f (zero-add l)))
-
 pub marked-in : (v : ℕ) (rs : List Record) (rest : List ℕ)
     → countIn (λ j. eqb (getD (numbers rs ++ rest) (j * recordWidth) 0) v) 0 (length rs) ≡ marked v rs
 unfolding numbers marked sum
 marked-in v [] rest = refl
 marked-in v (x ∷ rs) rest =
-    sum-head (λ j. bit (eqb (getD (numbers (x ∷ rs) ++ rest) (j * recordWidth) 0) v)) (length rs) ∙
+    let mark : ℕ → ℕ = λ j. bit (eqb (getD (numbers (x ∷ rs) ++ rest) (j * recordWidth) 0) v) in
+    sum-head mark 0 (length rs) ∙
     ap (λ (z : ℕ). bit (eqb (x .verdict) v) + z)
-    (sum-cong (λ j. bit (eqb (getD (numbers (x ∷ rs) ++ rest) (suc j * recordWidth) 0) v))
-    (λ j. bit (eqb (getD (numbers rs ++ rest) (j * recordWidth) 0) v)) 0 (length rs)
-    (λ j p q. let e : suc j * recordWidth ≡ suc (suc (suc (j * recordWidth))) = omega arith in rw e) ∙ marked-in v rs rest)
+    (sum-shift mark 0 (length rs) ∙
+    sum-cong (λ j. mark (suc j)) (λ j. bit (eqb (getD (numbers rs ++ rest) (j * recordWidth) 0) v)) 0 (length rs)
+    (λ j p q. rw (next-place j)) ∙ marked-in v rs rest)

@@ -1,7 +1,7 @@
 -- How the record of a release (rules, Replay) goes on from time t to t + 1, and when its task is idle; and `sole`, that a task of an
 -- accepted case never has two jobs at once (document 01, "The model"). Turn takes these together for all releases of a task.
 use mathlib.Core.Path.{_≡_, refl, ap, sym, _∙_}
-use mathlib.Core.Bool.{Bool, true, false, _&&_, _||_, and-false, or-true, true≢false}
+use mathlib.Core.Bool.{Bool, true, false, _&&_, _||_, and-false, or-true, true≢false, false≢true}
 use mathlib.Core.Logic.{_⊎_, inl, inr}
 use mathlib.Core.List.{List}
 use Prim.Native.Nat.{ℕ, zero, suc, _+_, _-_, _≤_, _<_}
@@ -12,18 +12,17 @@ use lib.Dec.{eqb, leb}
 use borrow.Author.Tests.{eqb-true, eq-eqb, le-leb, lt-leb}
 use Rattle.rules.specs.Words.{pick, orElse, firstIn}
 use Rattle.rules.specs.Limits.{maxTasks}
-use Rattle.rules.specs.Case.{Case, period, execution, deadline, releaseCount, timeOf, nameOf}
+use Rattle.rules.specs.Case.{Case, taskCount, period, execution, deadline, releaseCount, timeOf, nameOf}
 use Rattle.rules.specs.Policies.{demoting}
 use Rattle.rules.specs.Slot.{jobAt, isPresent, isDemoted, dueOf, isDemotedNow}
-use Rattle.rules.specs.Replay.{setupIn, releasedIn, releasedAt, idleTask, stateFrom, stateAt, finishedAt, demotedAt, slotsBy, finishBy}
+use Rattle.rules.specs.Replay.{setupIn, releasedIn, releasedAt, stateFrom, stateAt, finishedAt, demotedAt, slotsBy, finishBy}
 use Rattle.rules.specs.Replay.{demotionBy, verdictBy, verdictOf, Record, recordOf, jobRecord}
 use Rattle.rules.specs.declared.Job.{Job}
 use Rattle.rules.specs.declared.Job.the-variants.{Idle}
-use Rattle.rules.specs.declared.Task.{Task}
-use Rattle.lists.specs.Lists.{tab-at}
+use Rattle.lists.specs.Tests.{and-left, and-right, and-no}
 use Rattle.bridge.specs.Steps.{lowers, judgedJob}
 use Rattle.bridge.specs.Jobs.{Kept, kept-opened, Stand, written, idle-now, demotes-once}
-use Rattle.bridge.specs.Course.{Sole}
+use Rattle.bridge.specs.Course.{Sole, fresh-idle}
 use Rattle.bridge.specs.Stands.{replayOf, readyAt, openAt, ready, stands, next-at, ran-present, demoted-at}
 use Rattle.legal.specs.Legal.{Legal, Good}
 
@@ -41,17 +40,37 @@ released-yes rs (suc n) t i j h e f = go (released-yes rs n t i j) (eq-or-lt-of-
         rw (eq-eqb (timeOf rs n) t x, eq-eqb (nameOf rs n) (suc i) y) (or-true (releasedIn rs n t i))
     go ih (inr q) = rw (ih q e f)
 
-and-no : (a b : Bool) → (a ≡ true → b ≡ true → ⊥) → (a && b) ≡ false
-and-no true true h = absurd (h refl refl)
-and-no true false h = refl
-and-no false b h = refl
-
 pub released-no : (rs : List ℕ) (n t i : ℕ) → ((j : ℕ) → j < n → timeOf rs j ≡ t → nameOf rs j ≡ suc i → ⊥) → releasedIn rs n t i ≡ false
 unfolding releasedIn
 released-no rs zero t i h = refl
 released-no rs (suc n) t i h =
     rw (released-no rs n t i (λ j l. h j (omega arith)))
     (and-no (eqb (timeOf rs n) t) (eqb (nameOf rs n) (suc i)) (λ p q. h n (omega arith) (eqb-true _ _ p) (eqb-true _ _ q)))
+
+-- a release of the set is one of the trace
+pub released-some : (rs : List ℕ) (n t i : ℕ) → releasedIn rs n t i ≡ true → (j : ℕ) × ((j < n) × (timeOf rs j ≡ t) × (nameOf rs j ≡ suc i))
+unfolding releasedIn
+released-some rs zero t i e = absurd (false≢true e)
+released-some rs (suc n) t i e = go (releasedIn rs n t i) refl (released-some rs n t i) e
+  where
+    go : (b : Bool) → releasedIn rs n t i ≡ b
+        → (releasedIn rs n t i ≡ true → (j : ℕ) × ((j < n) × (timeOf rs j ≡ t) × (nameOf rs j ≡ suc i)))
+        → (b || (eqb (timeOf rs n) t && eqb (nameOf rs n) (suc i))) ≡ true
+        → (j : ℕ) × ((j < suc n) × (timeOf rs j ≡ t) × (nameOf rs j ≡ suc i))
+    go true q ih z = let r = ih q in (r .0, (omega (arith, r .1 .0), r .1 .1, r .1 .2))
+    go false q ih z = (
+      n,
+      (
+        omega arith,
+        eqb-true _ _ (and-left (eqb (timeOf rs n) t) _ z),
+        eqb-true _ _ (and-right (eqb (timeOf rs n) t) _ z),
+      ),
+    )
+
+pub released-named : (c : Case) → Legal c → (t i : ℕ) → releasedAt c t i ≡ true → i < taskCount (c .table)
+released-named c g t i e =
+    let r = released-some (c .trace) (releaseCount (c .trace)) t i e in
+    omega (arith, g .named (r .0) (r .1 .0), r .1 .2)
 
 -- ---- each release of an accepted case is the only one of its task up to its deadline
 abbrev pub taskAt : Case → ℕ → ℕ
@@ -106,7 +125,7 @@ module _ (c : Case) (i : ℕ) (l : i < maxTasks) where
 
   pub at-first : jobAt (stateAt c 0) i ≡ Idle
   unfolding stateAt stateFrom
-  at-first = ap (λ (t : Task). t .job) (tab-at idleTask maxTasks i (record { number = 0; last = 0; job = Idle }) l)
+  at-first = fresh-idle i l
 
   pub never-released : (t : ℕ) → ((u : ℕ) → u ≤ t → releasedAt c u i ≡ false) → readyAt c t i ≡ Idle
   never-released t h =

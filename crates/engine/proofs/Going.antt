@@ -2,18 +2,18 @@
 use mathlib.Core.Path.{_≡_, refl, ap, sym, _∙_}
 use mathlib.Core.Bool.{Bool, true, false, _&&_, false≢true}
 use mathlib.Core.List.{List, _++_}
-use Prim.Native.Nat.{ℕ, zero, suc, _+_, _-_, _*_, min, _≤_, _<_}
+use Prim.Native.Nat.{ℕ, suc, _+_, _-_, _*_, min, _≤_, _<_}
 use native.Mathlib.Numerals.{add-one}
 use native.Mathlib.Decide.{decLt}
 use native.Mathlib.Omega.{arith}
-use lib.Dec.{eqb, leb}
+use lib.Dec.{leb}
 use lib.ListN.{length, getD, drop, length-append, List·getD-eq-default}
 use lib.Seq.{drop-at}
-use borrow.Author.Tests.{lt-leb, eqb-true}
+use borrow.Author.Tests.{lt-leb}
 use Rattle.rules.specs.declared.Run.{Run}
 use Rattle.rules.specs.Words.{tab, firstIn}
 use Rattle.rules.specs.Limits.{maxTasks, recordWidth}
-use Rattle.rules.specs.Case.{Case, taskCount, deadline, releaseCount, timeOf, nameOf}
+use Rattle.rules.specs.Case.{Case, taskCount, deadline, releaseCount, timeOf}
 use Rattle.rules.specs.Policies.{demoting}
 use Rattle.rules.specs.Slot.{TaskSet, Setup, jobAt, isMissed, isDemotedNow, judged, joinedTask, joined, readied, demoted, lowered, opened}
 use Rattle.rules.specs.Slot.{after, ran, finished, missed, demotedNow, jobsNow}
@@ -23,7 +23,7 @@ use Rattle.lists.specs.Lists.{mapFrom-cong, tab-long, tab-at, tab-cong}
 use Rattle.bridge.specs.Steps.{Full, judged-full}
 use Rattle.bridge.specs.Stands.{state-full, state-next}
 use Rattle.legal.specs.Legal.{Legal}
-use Rattle.bridge.specs.Records.{taskAt, good-at, at-first}
+use Rattle.bridge.specs.Records.{released-named, taskAt, good-at, at-first}
 use Rattle.bridge.specs.Turn.{lastPlace, Reached}
 use Rattle.bridge.specs.Events.{turn-event}
 use Rattle.bridge.specs.Notes.{numbers-long, noteTo, Handed, noted-all}
@@ -103,25 +103,11 @@ module _ (c : Case) (g : Legal c) (clock : ℕ) (more : clock < c .end) (rel : L
   rel-at i h = rw re (tab-at (releasedIn (c .trace) (releaseCount (c .trace)) clock) maxTasks i false h)
 
   -- what the slot is asked for is there
-  some-release : (rs : List ℕ) (n t i : ℕ) → ((j : ℕ) → j < n → nameOf rs j ≤ taskCount (c .table)) → releasedIn rs n t i ≡ true
-      → i < taskCount (c .table)
-  unfolding releasedIn
-  some-release rs zero t i f e = absurd (false≢true e)
-  some-release rs (suc n) t i f e = go (releasedIn rs n t i) refl (some-release rs n t i (λ j h. f j (omega arith)))
-    where
-      go : (b : Bool) → releasedIn rs n t i ≡ b → (releasedIn rs n t i ≡ true → i < taskCount (c .table)) → i < taskCount (c .table)
-      go true q ih = ih q
-      go false q ih = named (eqb (timeOf rs n) t) (rw q at e)
-        where
-          named : (b : Bool) → (b && eqb (nameOf rs n) (suc i)) ≡ true → i < taskCount (c .table)
-          named true x = omega (arith, f n (omega arith), eqb-true (nameOf rs n) (suc i) x)
-          named false x = absurd (false≢true x)
-
   in-table : (i : ℕ) → getD rel i false ≡ true → i < taskCount (c .table)
   in-table i e = go (decLt i maxTasks)
     where
       go : Dec (i < maxTasks) → i < taskCount (c .table)
-      go (yes h) = some-release (c .trace) (releaseCount (c .trace)) clock i (λ j l. g .named j l .1) (sym (rel-at i h) ∙ e)
+      go (yes h) = released-named c g clock i (sym (rel-at i h) ∙ e)
       go (no h) =
           let long : length rel ≡ maxTasks = rw re (tab-long (releasedIn (c .trace) (releaseCount (c .trace)) clock) 0 maxTasks) in
           absurd (false≢true (sym (List·getD-eq-default rel false {n = i} (omega arith)) ∙ e))

@@ -1,6 +1,6 @@
 -- A walk over the releases of one time.
-use mathlib.Core.Path.{_≡_, refl, ap, sym, _∙_}
-use mathlib.Core.Bool.{Bool, true, false, _&&_, or-true, or-false}
+use mathlib.Core.Path.{_≡_, ap, sym, _∙_}
+use mathlib.Core.Bool.{Bool, true, false, or-true, or-false}
 use mathlib.Core.Logic.{_⊎_, inl, inr}
 use mathlib.Core.List.{List}
 use Prim.Native.Nat.{ℕ, zero, suc, _+_, _-_, _≤_, _<_}
@@ -16,6 +16,7 @@ use Rattle.rules.specs.Limits.{maxTasks}
 use Rattle.rules.specs.Case.{releaseCount, timeOf, nameOf}
 use Rattle.rules.specs.Replay.{releasedIn}
 use Rattle.lists.specs.Lists.{tab-cong, tab-set}
+use Rattle.lists.specs.Tests.{and-no}
 use Rattle.bridge.specs.Turn.{lastPlace, Reached}
 use Rattle.bridge.specs.Records.{released-no}
 use Rattle.engine.specs.Walks.{Orderly, places, releases}
@@ -26,9 +27,6 @@ pub record Taking (rs : List ℕ) (clock k : ℕ) (place : List ℕ) (released :
   pub behind : (j : ℕ) → k ≤ j → j < releaseCount rs → clock ≤ timeOf rs j
   pub at-place : place ≡ places rs k
   pub at-released : released ≡ releases rs k clock
-
-pub nobody : List Bool
-nobody = tab (λ i. false) 0 maxTasks
 
 pub taking-none : (rs : List ℕ) (clock from : ℕ) (place : List ℕ) → Reached rs from clock → place ≡ places rs from
     → Taking rs clock from place (tab (λ i. false) 0 maxTasks)
@@ -48,13 +46,9 @@ released-new rs k t i e f = rw (eq-eqb (timeOf rs k) t e, eq-eqb (nameOf rs k) (
 
 released-old : (rs : List ℕ) (k t i : ℕ) → (timeOf rs k ≡ t → nameOf rs k ≡ suc i → ⊥) → releasedIn rs (suc k) t i ≡ releasedIn rs k t i
 unfolding releasedIn
-released-old rs k t i h = rw (no (eqb (timeOf rs k) t) refl (eqb (nameOf rs k) (suc i)) refl) (or-false (releasedIn rs k t i))
-  where
-    no : (a : Bool) → eqb (timeOf rs k) t ≡ a → (b : Bool) → eqb (nameOf rs k) (suc i) ≡ b
-        → (eqb (timeOf rs k) t && eqb (nameOf rs k) (suc i)) ≡ false
-    no true p true q = absurd (h (eqb-true _ _ p) (eqb-true _ _ q))
-    no true p false q = rw (p, q)
-    no false p b q = rw p
+released-old rs k t i h =
+    rw (and-no (eqb (timeOf rs k) t) (eqb (nameOf rs k) (suc i)) (λ p q. h (eqb-true _ _ p) (eqb-true _ _ q)))
+    (or-false (releasedIn rs k t i))
 
 place-new : (rs : List ℕ) (k name : ℕ) → nameOf rs k ≡ name → lastPlace rs (suc k) name ≡ k
 unfolding lastPlace

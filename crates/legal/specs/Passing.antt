@@ -1,9 +1,9 @@
 -- What it means to pass each test on numbers (rules, Refusals). Each test is opened here and in the proof of the function that makes it,
 -- and nowhere else: Legal, the proofs of the checks and the theorems cite these laws.
 use mathlib.Core.Path.{_≡_}
-use mathlib.Core.Bool.{Bool, true, _&&_}
-use mathlib.Core.List.{List, [], _∷_}
-use Prim.Native.Nat.{ℕ, suc, _+_, _*_, _-_, _%_, _≤_, _<_}
+use mathlib.Core.Bool.{true, _&&_}
+use mathlib.Core.List.{List}
+use Prim.Native.Nat.{ℕ, suc, _*_, _-_, _%_, _≤_, _<_}
 use native.Mathlib.Omega.{arith}
 use lib.ListN.{length}
 use lib.Dec.{eqb, ltb, leb}
@@ -11,7 +11,7 @@ use borrow.Author.Tests.{eqb-true, leb-true, ltb-true, le-leb}
 use Rattle.rules.specs.Limits.{maxProcs, maxTasks, maxPeriod, maxEnd, maxReleases, taskWidth, releaseWidth}
 use Rattle.rules.specs.Case.{taskCount, period, execution, deadline, releaseCount, timeOf, nameOf}
 use Rattle.rules.specs.Policies.{maxPolicy}
-use Rattle.rules.specs.Refusals.{noFault, unless, procsFault, policyFault, tableFault, taskStands, taskFault, tasksFault, endFault}
+use Rattle.rules.specs.Refusals.{noFault, procsFault, policyFault, tableFault, taskStands, taskFault, tasksFault, endFault}
 use Rattle.rules.specs.Refusals.{traceFault, named, lastBefore, inOrder, apart, releaseTests, releaseFault, releasesFault, roomFault}
 use Rattle.rules.specs.Refusals.{slotFault}
 use Rattle.lists.specs.Tests.{and-left, and-right}

@@ -3,7 +3,7 @@
 use mathlib.Core.Path.{_≡_, refl, ap, sym}
 use mathlib.Core.Bool.{Bool, true, false}
 use Prim.Native.Nat.{ℕ, zero, suc, _+_, _*_, _≤_, _<_}
-use native.Mathlib.Nat.{add-zero, add-suc, add-assoc}
+use native.Mathlib.Nat.{add-zero, add-suc, suc-add, add-assoc}
 use native.Mathlib.Omega.{arith}
 use Rattle.rules.specs.Words.{sum, bit, countIn}
 
@@ -15,6 +15,19 @@ pub sum-split : (f : ℕ → ℕ) (a l k : ℕ) → sum f a (l + k) ≡ sum f a 
 unfolding sum
 sum-split f a l zero = rw (add-zero l) (omega arith)
 sum-split f a l (suc k) = rw add-suc (omega (arith, sum-split f a l k, ap f (sym (add-assoc a l k))))
+
+pub sum-head : (f : ℕ → ℕ) (a l : ℕ) → sum f a (suc l) ≡ f a + sum f (suc a) l
+unfolding sum
+sum-head f a zero = omega (arith, ap f (add-zero a))
+sum-head f a (suc l) =
+    let z : a + suc l ≡ suc a + l = omega arith in
+    omega (arith, sum-head f a l, ap f z)
+
+-- a sum from one further on
+pub sum-shift : (f : ℕ → ℕ) (a l : ℕ) → sum f (suc a) l ≡ sum (λ t. f (suc t)) a l
+unfolding sum
+sum-shift f a zero = refl
+sum-shift f a (suc l) = omega (arith, sum-shift f a l, ap f (suc-add a l))
 
 pub sum-mono : (f g : ℕ → ℕ) (a l : ℕ) → ((t : ℕ) → a ≤ t → t < a + l → f t ≤ g t) → sum f a l ≤ sum g a l
 unfolding sum

@@ -11,6 +11,11 @@ pub and-right : (a b : Bool) → (a && b) ≡ true → b ≡ true
 and-right true b e = e
 and-right false b e = absurd (false≢true e)
 
+pub and-no : (a b : Bool) → (a ≡ true → b ≡ true → ⊥) → (a && b) ≡ false
+and-no true true h = absurd (h refl refl)
+and-no true false h = refl
+and-no false b h = refl
+
 pub or-cases : (a b : Bool) → (a || b) ≡ true → (a ≡ true) ⊎ (b ≡ true)
 or-cases true b e = inl refl
 or-cases false b e = inr e

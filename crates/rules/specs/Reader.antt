@@ -2,13 +2,13 @@
 -- the refusals 1 to 3, their order, and the reader's whole answer with what its two lent rooms hold at exit.
 use Prim.Native.Nat.{ℕ, zero, suc, _*_}
 use mathlib.Core.List.{List, [], _∷_, _++_}
-use mathlib.Core.Bool.{Bool, true, false, _&&_, _||_, not}
+use mathlib.Core.Bool.{Bool, _&&_, _||_, not}
 use lib.Dec.{eqb, leb}
 use lib.ListN.{length, drop}
 use Rattle.rules.specs.Words.{pick}
 use Rattle.rules.specs.Limits.{maxTasks, maxReleases, maxText, taskWidth, releaseWidth}
 use Rattle.rules.specs.Case.{Case, caseOf, taskCount, releaseCount}
-use Rattle.rules.specs.Refusals.{noFault, unless, orNext, first, roomFault, caseFault}
+use Rattle.rules.specs.Refusals.{unless, first, roomFault, caseFault}
 use Rattle.rules.specs.Answers.{Answer, settled, kept}
 use Rattle.rules.specs.Text.{newlineByte, same, has, lineOf, afterLine, fieldOf, afterField, numberIn, procsWord, policyWord}
 use Rattle.rules.specs.Text.{taskWord, endWord, releaseWord}

@@ -1,13 +1,13 @@
 -- The replay (document 01, "What happens at time t, in this order"): the state at each time, the sets of each slot, the record of each
 -- release, the totals, the running set of a slot. A record is read off the sets of the slots, at any time e; the answer is e = end.
-use Prim.Native.Nat.{ℕ, zero, suc, _+_, _*_, _-_, min}
+use Prim.Native.Nat.{ℕ, zero, suc, _+_, _-_, min}
 use mathlib.Core.Bool.{Bool, true, false, _&&_, _||_}
 use mathlib.Core.List.{List, [], _∷_}
 use lib.Dec.{eqb, leb}
-use Rattle.rules.specs.Words.{pick, bit, firstIn, tab}
+use Rattle.rules.specs.Words.{bit, firstIn, tab}
 use Rattle.rules.specs.Limits.{maxTasks}
 use Rattle.rules.specs.Case.{Case, deadline, releaseCount, timeOf, nameOf}
-use Rattle.rules.specs.Slot.{Setup, TaskSet, setupOf, runOf, judged, readied, demoted, contentionFree, present, after, ran, finished}
+use Rattle.rules.specs.Slot.{Setup, TaskSet, setupOf, runOf, judged, readied, demoted, contentionFree, after, ran, finished}
 use Rattle.rules.specs.Slot.{missed, demotedNow, setNumber}
 use Rattle.rules.specs.declared.Job.the-variants.{Idle}
 use Rattle.rules.specs.declared.Task.{Task}

@@ -3,7 +3,6 @@
 use Prim.Native.Nat.{ℕ, zero, suc, _+_, _-_}
 use mathlib.Core.List.{List, [], _∷_, _++_}
 use lib.Dec.{eqb}
-use lib.ListN.{length}
 use Rattle.rules.specs.Words.{pick, tab}
 use Rattle.rules.specs.Case.{Case, taskCount, deadline, releaseCount, timeOf, nameOf}
 use Rattle.rules.specs.Replay.{Record, recordBy, metJobs, missedJobs, openJobs}

@@ -1,28 +1,24 @@
 -- The replay of an accepted case is a lawful course, and what its records say is what the course's slots say: so what Enough and Demoted
 -- prove of courses holds of the replay (rules, Replay). For Demand3 and Endings.
 use mathlib.Core.Path.{_≡_, refl, ap, sym, _∙_}
-use mathlib.Core.Bool.{Bool, true, false, _&&_, _||_, false≢true}
-use mathlib.Core.List.{List}
-use Prim.Native.Nat.{ℕ, zero, suc, _+_, _-_, _≤_, _<_}
+use mathlib.Core.Bool.{Bool, true, false}
+use Prim.Native.Nat.{ℕ, suc, _+_, _-_, _≤_, _<_}
 use native.Mathlib.Decide.{decLt}
 use native.Mathlib.Omega.{arith}
-use lib.Dec.{eqb}
-use borrow.Author.Tests.{eqb-true}
 use Rattle.rules.specs.declared.Fault.{Fault}
 use Rattle.rules.specs.Case.{Case, under, period, deadline, releaseCount, timeOf, nameOf}
 use Rattle.rules.specs.Counts.{freeCount}
 use Rattle.rules.specs.Refusals.{caseTests, caseFault, Accepted}
 use Rattle.rules.specs.Policies.{maxPolicy, demoting}
 use Rattle.rules.specs.Slot.{jobAt, isDemoted}
-use Rattle.rules.specs.Replay.{releasedIn, releasedAt, stateAt, slotsBy, finishBy, demotionBy}
+use Rattle.rules.specs.Replay.{releasedAt, stateAt, slotsBy, finishBy, demotionBy}
 use Rattle.bridge.specs.Course.{Course, finishIn, demotionIn}
 use Rattle.bridge.specs.Stands.{replayOf, replay-state, replay-finished, replay-demoted}
 use Rattle.legal.specs.Legal.{Legal}
 use Rattle.legal.specs.Passing.{policy-none}
-use Rattle.lists.specs.Tests.{and-left, and-right}
 use Rattle.legal.specs.Firsts.{row-clear, row-none}
 use Rattle.bridge.specs.Jobs.{Stand}
-use Rattle.bridge.specs.Records.{taskAt, sole}
+use Rattle.bridge.specs.Records.{released-some, released-named, taskAt, sole}
 use Rattle.theory.specs.Counting.{first-cong}
 use Rattle.theory.specs.Lawful.{Lawful, replay-attends}
 use Rattle.theory.specs.Demoted.{Alone, at-deadline, none-demoted}
@@ -43,26 +39,6 @@ alone k g i a r =
     free u p q false e = e
     free u p q true e = absurd (omega (arith, g .separate i a u r e p, g .good i (g .named a i r) .within))
 
--- ---- a release of the set is one of the trace
-pub released-some : (rs : List ℕ) (n t i : ℕ) → releasedIn rs n t i ≡ true → (j : ℕ) × ((j < n) × (timeOf rs j ≡ t) × (nameOf rs j ≡ suc i))
-unfolding releasedIn
-released-some rs zero t i e = absurd (false≢true e)
-released-some rs (suc n) t i e = go (releasedIn rs n t i) refl (released-some rs n t i) e
-  where
-    go : (b : Bool) → releasedIn rs n t i ≡ b
-        → (releasedIn rs n t i ≡ true → (j : ℕ) × ((j < n) × (timeOf rs j ≡ t) × (nameOf rs j ≡ suc i)))
-        → (b || (eqb (timeOf rs n) t && eqb (nameOf rs n) (suc i))) ≡ true
-        → (j : ℕ) × ((j < suc n) × (timeOf rs j ≡ t) × (nameOf rs j ≡ suc i))
-    go true q ih z = let r = ih q in (r .0, (omega (arith, r .1 .0), r .1 .1, r .1 .2))
-    go false q ih z = (
-      n,
-      (
-        omega arith,
-        eqb-true _ _ (and-left (eqb (timeOf rs n) t) _ z),
-        eqb-true _ _ (and-right (eqb (timeOf rs n) t) _ z),
-      ),
-    )
-
 module _ (c : Case) (g : Legal c) where
   separate : (i u v : ℕ) → releasedAt c u i ≡ true → releasedAt c v i ≡ true → u < v → u + period (c .table) i ≤ v
   separate i u v p q h =
@@ -82,9 +58,7 @@ module _ (c : Case) (g : Legal c) where
   lawful = record {
     tasks-few = g .tasks-few;
     good = g .good;
-    named = λ t i e.
-        let r = released-some (c .trace) (releaseCount (c .trace)) t i e in
-        omega (arith, g .named (r .0) (r .1 .0), r .1 .2);
+    named = released-named c g;
     separate = separate;
   }
 

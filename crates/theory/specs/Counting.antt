@@ -19,13 +19,6 @@ bit-mono : (a b : Bool) → (a ≡ true → b ≡ true) → bit a ≤ bit b
 bit-mono true b h = rw (h refl) (omega arith)
 bit-mono false b h = omega arith
 
-pub sum-head : (f : ℕ → ℕ) (a l : ℕ) → sum f a (suc l) ≡ f a + sum f (suc a) l
-unfolding sum
-sum-head f a zero = omega (arith, ap f (add-zero a))
-sum-head f a (suc l) =
-    let z : a + suc l ≡ suc a + l = omega arith in
-    omega (arith, sum-head f a l, ap f z)
-
 -- ---- two counts
 pub count-cong : (p q : ℕ → Bool) (a l : ℕ) → ((t : ℕ) → a ≤ t → t < a + l → p t ≡ q t) → countIn p a l ≡ countIn q a l
 count-cong p q a l h = sum-cong _ _ a l (λ t x y. ap bit (h t x y))

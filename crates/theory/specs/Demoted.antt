@@ -26,13 +26,17 @@ module _ (k : Course) (i a : ℕ) (s : Alone k i a) where
   abbrev D : ℕ
   D = deadline (k .setup .table) i
 
+  -- the slot before its deadline is the last of its D slots
+  last-slot : suc (D - 1) ≡ D
+  last-slot = omega (arith, s .lasts)
+
+  due-next : suc (a + (D - 1)) ≡ a + D
+  due-next = omega (arith, s .lasts)
+
   -- how the job stands at its deadline, before step 1
   pub at-deadline : Stand (finishIn k i a) (demotionIn k i a) (a + D) (jobAt (stateIn k (a + D)) i)
   unfolding finishIn demotionIn
-  at-deadline =
-      let z : suc (a + (D - 1)) ≡ a + D = omega (arith, s .lasts) in
-      let y : suc (D - 1) ≡ D = omega (arith, s .lasts) in
-      rw y at (rw z at (left-stands k i a (s .sole) (D - 1) (omega (arith, s .lasts))))
+  at-deadline = rw last-slot at (rw due-next at (left-stands k i a (s .sole) (D - 1) (omega (arith, s .lasts))))
 
   module _ (cf : demoting (k .setup .policy) ≡ true) (e : ℕ) (attends : Attends k e) (come : a + D ≤ e) where
     -- the job's own story
@@ -50,10 +54,7 @@ module _ (k : Course) (i a : ℕ) (s : Alone k i a) where
     found-told (suc n) h = rw (add-suc a n) (found-next k i a (s .sole) n h ∙ left-told n (found-told n (omega arith)))
 
     due-told : jobAt (stateIn k (a + D)) i ≡ told D
-    due-told =
-        let z : suc (a + (D - 1)) ≡ a + D = omega (arith, s .lasts) in
-        let y : suc (D - 1) ≡ D = omega (arith, s .lasts) in
-        rw y at (rw z at (left-told (D - 1) (found-told (D - 1) (omega (arith, s .lasts)))))
+    due-told = rw last-slot at (rw due-next at (left-told (D - 1) (found-told (D - 1) (omega (arith, s .lasts)))))
 
     attended : Attended (contentionFreeIn k) (λ t. k .works t i) a (releasedJob (k .setup) a i) D
     attended n h q p = attends (a + n) i (omega arith) (s .sole .task) q (present-in k (a + n) i (s .sole .task)

@@ -19,10 +19,10 @@ use Rattle.bridge.specs.Jobs.{Stand}
 use Rattle.bridge.specs.Stands.{state-full, stands, replayOf, replay-state}
 use Rattle.legal.specs.Legal.{Legal}
 use Rattle.lists.specs.Tests.{and-left, and-right}
-use Rattle.bridge.specs.Records.{taskAt, good-at, sole}
+use Rattle.bridge.specs.Records.{released-some, taskAt, good-at, sole}
 use Rattle.theory.specs.Counting.{and-both, count-none, count-only}
 use Rattle.theory.specs.Enough.{From, judged-from, state-from}
-use Rattle.theory.specs.Accept.{lawful, released-some, stand-due}
+use Rattle.theory.specs.Accept.{lawful, stand-due}
 use Rattle.theory.specs.Verdicts.{missed-says, open-says}
 
 -- ---- where the jobs of the states come from

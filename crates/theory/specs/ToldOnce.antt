@@ -11,7 +11,7 @@ use Rattle.rules.specs.declared.Fault.{Fault}
 use Rattle.rules.specs.Words.{pick}
 use Rattle.rules.specs.Case.{Case}
 use Rattle.rules.specs.Answers.{Answer, refusal, result, settled, kept, countedAs, replayedAs, runningAs, takenAs, writtenAs}
-use Rattle.rules.specs.Told.{Told, Seen, seen, numberOf, placeOr, valuesOr, CountsTold, ReplayTold, RunningTold, ReadTold, WriteTold}
+use Rattle.rules.specs.Told.{Told, seen, numberOf, placeOr, valuesOr, CountsTold, ReplayTold, RunningTold, ReadTold, WriteTold}
 use Rattle.theory.specs.Decided.{counts-decided, replay-decided, running-decided, read-decided, write-decided}
 
 -- the number returned is that of the fault that was found, which is 0 where there is none

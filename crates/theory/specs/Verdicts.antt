@@ -8,7 +8,7 @@ use lib.Dec.{eqb, leb}
 use Rattle.rules.specs.Words.{bit, sum, countIn, tab}
 use Rattle.rules.specs.Case.{Case, deadline, timeOf, nameOf}
 use Rattle.rules.specs.Replay.{finishBy, verdictOf, verdictBy, recordBy, marked}
-use Rattle.theory.specs.Counting.{sum-head}
+use Rattle.lists.specs.Sums.{sum-head}
 
 pub met-by-finish : (f : ℕ) (come : Bool) → 0 < f → verdictOf f come ≡ 1
 met-by-finish zero come h = absurd (omega arith)
