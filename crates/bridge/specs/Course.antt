@@ -93,8 +93,8 @@ module _ (k : Course) where
 
     pub next-in : jobAt (stateIn k (suc t)) i ≡ pick (k .works t i) (workedJob (openIn k t i)) (openIn k t i)
     unfolding stateIn
-    next-in = worked-at i l (k .works t) (openedIn k t) (opened-full (k .setup) t (k .released t) (stateIn k t) (course-full t))
-        ∙ rw open-in
+    next-in =
+        worked-at i l (k .works t) (openedIn k t) (opened-full (k .setup) t (k .released t) (stateIn k t) (course-full t)) ∙ rw open-in
 
     pub demoted-in : demotedIn k t i ≡ (demoting (k .setup .policy) && isDemotedNow (foundIn k t i))
     unfolding demotedIn demotedNow
@@ -140,14 +140,15 @@ module _ (k : Course) (i a : ℕ) (s : Sole k i a) where
       (isPresent o && k .works t i) (fin n) (dem n) (a + D) t (foundIn k t i) (λ e. rw e) h)
 
   -- between release and deadline a slot finds what the slot before it left
-  found-after : (n : ℕ) → suc n < D → Stand (fin (suc n)) (dem (suc n)) (a + D) (jobAt (stateIn k (suc (a + n))) i)
+  found-after : (n : ℕ) → suc n < D
+      → Stand (fin (suc n)) (dem (suc n)) (a + D) (jobAt (stateIn k (suc (a + n))) i)
       → foundIn k (suc (a + n)) i ≡ jobAt (stateIn k (suc (a + n))) i
   found-after n h v = rw (s .alone (suc (a + n)) (omega arith) (omega arith)) (not-due _ _ (a + D) (suc (a + n)) _ (omega arith) v)
 
   -- how the job stands after steps 1 and 2 of each of its slots
   pub found-stands : (n : ℕ) → n < deadline (k .setup .table) i
-      → Stand (firstIn (λ t. finishedIn k t i) a n) (firstIn (λ t. demotedIn k t i) a n) (a + deadline (k .setup .table) i)
-      (foundIn k (a + n) i)
+      → Stand (firstIn (λ t. finishedIn k t i) a n) (firstIn (λ t. demotedIn k t i) a n)
+      (a + deadline (k .setup .table) i) (foundIn k (a + n) i)
   unfolding firstIn
   found-stands zero h = rw (add-zero a, s .released) (inl (refl, record { there = refl; its = refl; demoted = refl }))
   found-stands (suc n) h =
@@ -156,8 +157,8 @@ module _ (k : Course) (i a : ℕ) (s : Sole k i a) where
 
   -- and before step 1 of each time after its release, its deadline included
   pub left-stands : (n : ℕ) → n < deadline (k .setup .table) i
-      → Stand (firstIn (λ t. finishedIn k t i) a (suc n)) (firstIn (λ t. demotedIn k t i) a (suc n)) (a + deadline (k .setup .table) i)
-      (jobAt (stateIn k (suc (a + n))) i)
+      → Stand (firstIn (λ t. finishedIn k t i) a (suc n)) (firstIn (λ t. demotedIn k t i) a (suc n))
+      (a + deadline (k .setup .table) i) (jobAt (stateIn k (suc (a + n))) i)
   left-stands n h = stand-next n (found-stands n h)
 
   pub found-next : (n : ℕ) → suc n < deadline (k .setup .table) i → foundIn k (suc (a + n)) i ≡ jobAt (stateIn k (suc (a + n))) i

@@ -18,7 +18,7 @@ use Rattle.bridge.specs.Jobs.{kept-opened, goes-on, absent-demotes}
 use Rattle.bridge.specs.Stands.{readyAt, openAt, finished-at, demoted-at, ran-present, next-at}
 use Rattle.legal.specs.Legal.{Legal}
 use Rattle.bridge.specs.Records.{noted}
-use Rattle.bridge.specs.Turn.{lastPlace, Reached, Live, turn-idle, turn-live}
+use Rattle.bridge.specs.Turn.{lastPlace, Reached, Lives, turn-idle, turn-live}
 
 -- whether anything is written
 abbrev pub event : Bool → Bool → Bool → Bool
@@ -94,13 +94,14 @@ module _ (c : Case) (t i : ℕ) (l : i < maxTasks) where
     abbrev p : ℕ
     p = lastPlace (c .trace) k (suc i)
 
-    pub record Written : Type 0 where
+    -- what the slot writes, as the record of the task's last release, and that no other record of the task changes
+    pub record Entered : Type 0 where
       pub within : p < releaseCount (c .trace)
       pub its : nameOf (c .trace) p ≡ suc i
       pub new : recordBy c (suc t) p ≡ entry t fin dem missed-next (recordBy c t p .demotion)
       pub others : (j : ℕ) → j < releaseCount (c .trace) → nameOf (c .trace) j ≡ suc i → (j ≡ p → ⊥) → recordBy c (suc t) j ≡ recordBy c t j
 
-    there : isPresent (openAt c t i) ≡ true → Live c g t k w i l → Written
+    there : isPresent (openAt c t i) ≡ true → Lives c g t k w i l → Entered
     there e v = record {
       within = v .within;
       its = v .its;
@@ -109,16 +110,16 @@ module _ (c : Case) (t i : ℕ) (l : i < maxTasks) where
     }
 
     -- where something is written, it is written of the task's last release
-    pub turn-event : event fin dem missed-next ≡ true → Written
+    pub turn-event : event fin dem missed-next ≡ true → Entered
     turn-event e = go (isPresent (openAt c t i)) refl
       where
-        go : (b : Bool) → isPresent (openAt c t i) ≡ b → Written
+        go : (b : Bool) → isPresent (openAt c t i) ≡ b → Entered
         go true q = there q (turn-live c g t k w i l q)
         go false q = absurd (true≢false (sym e ∙ absent q))
 
     -- where nothing is, no record of the task changes
-    pub turn-quiet : event fin dem missed-next ≡ false → (j : ℕ) → j < releaseCount (c .trace) → nameOf (c .trace) j ≡ suc i
-        → recordBy c (suc t) j ≡ recordBy c t j
+    pub turn-quiet : event fin dem missed-next ≡ false
+        → (j : ℕ) → j < releaseCount (c .trace) → nameOf (c .trace) j ≡ suc i → recordBy c (suc t) j ≡ recordBy c t j
     turn-quiet e j h q = go (isPresent (openAt c t i)) refl
       where
         none : (a b d : Bool) → event a b d ≡ false → (x : ℕ) → entry t a b d x ≡ recordOf 3 0 x
@@ -127,7 +128,7 @@ module _ (c : Case) (t i : ℕ) (l : i < maxTasks) where
         none false false true e x = absurd (true≢false e)
         none false false false e x = refl
 
-        last : Live c g t k w i l → Written → (b : Bool) → eqb j p ≡ b → recordBy c (suc t) j ≡ recordBy c t j
+        last : Lives c g t k w i l → Entered → (b : Bool) → eqb j p ≡ b → recordBy c (suc t) j ≡ recordBy c t j
         last v u true z =
             let y : j ≡ p = eqb-true j p z in
             rw y (u .new ∙ none fin dem missed-next e (recordBy c t p .demotion) ∙ sym (v .old))

@@ -186,7 +186,8 @@ demoted-next zero t b false e = rw e
 demoted-next (suc d) t b dm e = rw e
 
 -- the step law: from what a slot finds after steps 1 and 2 to what it leaves
-pub slot-stand : (cf lw runs : Bool) (f d due t : ℕ) (j : Job) → (isPresent (openedJob cf lw j) ≡ false → runs ≡ false) → Stand f d due j
+pub slot-stand : (cf lw runs : Bool) (f d due t : ℕ) (j : Job)
+    → (isPresent (openedJob cf lw j) ≡ false → runs ≡ false) → Stand f d due j
     → Stand (orElse f (runs && isLast (openedJob cf lw j)) (suc t)) (orElse d (cf && isDemotedNow j) (suc t)) due
     (pick runs (workedJob (openedJob cf lw j)) (openedJob cf lw j))
 slot-stand cf lw runs zero d due t j fair (inl (e, v)) = go runs (isLast (openedJob cf lw j)) refl

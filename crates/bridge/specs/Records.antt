@@ -91,9 +91,9 @@ module _ (c : Case) (g : Legal c) where
         alone = λ u p q. released-no (c .trace) _ u _ (λ k l e f. other u p q k l e f (decLt k j));
       }
     where
-      other : (u : ℕ) → timeOf (c .trace) j < u → u < timeOf (c .trace) j + deadline (c .table) (taskAt c j) → (k : ℕ)
-          → k < releaseCount (c .trace)
-          → timeOf (c .trace) k ≡ u → nameOf (c .trace) k ≡ suc (taskAt c j) → Dec (k < j) → ⊥
+      other : (u : ℕ) → timeOf (c .trace) j < u → u < timeOf (c .trace) j + deadline (c .table) (taskAt c j)
+          → (k : ℕ) → k < releaseCount (c .trace) → timeOf (c .trace) k ≡ u → nameOf (c .trace) k ≡ suc (taskAt c j)
+          → Dec (k < j) → ⊥
       other u p q k l e f (yes z) = omega (arith, g .in-order k j (omega arith) h)
       other u p q k l e f (no z) = later (eq-or-lt-of-le {n = j} {m = k} (omega arith))
         where
@@ -137,8 +137,9 @@ due-gone : (f d due : ℕ) (j : Job) → Stand f d due j → judgedJob due j ≡
 due-gone f d due j (inl (e, v)) = rw (v .there, eq-eqb (dueOf j) due (v .its))
 due-gone f d due j (inr (p, e)) = rw e
 
-pub over : (c : Case) (i a : ℕ) → Sole (replayOf c) i a → 0 < deadline (c .table) i → (t : ℕ) → a + deadline (c .table) i ≤ t
-    → ((u : ℕ) → a < u → u ≤ t → releasedAt c u i ≡ false) → readyAt c t i ≡ Idle
+pub over : (c : Case) (i a : ℕ) → Sole (replayOf c) i a → 0 < deadline (c .table) i
+    → (t : ℕ) → a + deadline (c .table) i ≤ t → ((u : ℕ) → a < u → u ≤ t → releasedAt c u i ≡ false)
+    → readyAt c t i ≡ Idle
 over c i a s pos t h none =
     let D = deadline (c .table) i in
     let e : suc (a + (D - 1)) ≡ a + D = omega arith in
@@ -176,20 +177,20 @@ pub record LiveAt (c : Case) (i a t : ℕ) : Type 0 where
 
 module _ (c : Case) (i a : ℕ) (s : Sole (replayOf c) i a) (pos : 0 < deadline (c .table) i) where
   -- the record depends only on how many of its slots have been, and on whether its deadline has come
-  same-slots : (t u : ℕ) → slotsBy c i a t ≡ slotsBy c i a u → leb (a + deadline (c .table) i) t ≡ leb (a + deadline (c .table) i) u
-      → jobRecord c i a t ≡ jobRecord c i a u
+  same-slots : (t u : ℕ) → slotsBy c i a t ≡ slotsBy c i a u
+      → leb (a + deadline (c .table) i) t ≡ leb (a + deadline (c .table) i) u → jobRecord c i a t ≡ jobRecord c i a u
   unfolding finishBy demotionBy verdictBy
   same-slots t u e f = rw (e, f)
 
   pub future : (t : ℕ) → t < a → jobRecord c i a (suc t) ≡ jobRecord c i a t
   unfolding slotsBy
-  future t h = same-slots (suc t) t (omega arith) (lt-leb (a + deadline (c .table) i) (suc t) (omega arith)
-      ∙ sym (lt-leb (a + deadline (c .table) i) t (omega arith)))
+  future t h = same-slots (suc t) t (omega arith)
+      (lt-leb (a + deadline (c .table) i) (suc t) (omega arith) ∙ sym (lt-leb (a + deadline (c .table) i) t (omega arith)))
 
   pub past : (t : ℕ) → a + deadline (c .table) i ≤ t → jobRecord c i a (suc t) ≡ jobRecord c i a t
   unfolding slotsBy
-  past t h = same-slots (suc t) t (omega arith) (le-leb (a + deadline (c .table) i) (suc t) (omega arith)
-      ∙ sym (le-leb (a + deadline (c .table) i) t (omega arith)))
+  past t h = same-slots (suc t) t (omega arith)
+      (le-leb (a + deadline (c .table) i) (suc t) (omega arith) ∙ sym (le-leb (a + deadline (c .table) i) t (omega arith)))
 
   slots-at : (n : ℕ) → n ≤ deadline (c .table) i → slotsBy c i a (a + n) ≡ n
   unfolding slotsBy
@@ -206,9 +207,10 @@ module _ (c : Case) (i a : ℕ) (s : Sole (replayOf c) i a) (pos : 0 < deadline 
     unfolding finishBy demotionBy verdictBy
     now = rw (slots-at n (omega arith))
 
-    next : jobRecord c i a (suc (a + n)) ≡
-        recordOf (verdictOf (orElse fin (finishedAt c (a + n) i) (suc (a + n))) (leb (a + deadline (c .table) i) (suc (a + n))))
-        (orElse fin (finishedAt c (a + n) i) (suc (a + n))) (orElse dem (demotedAt c (a + n) i) (suc (a + n)))
+    next : jobRecord c i a (suc (a + n))
+        ≡ recordOf (verdictOf (orElse fin (finishedAt c (a + n) i) (suc (a + n))) (leb (a + deadline (c .table) i) (suc (a + n))))
+        (orElse fin (finishedAt c (a + n) i) (suc (a + n)))
+        (orElse dem (demotedAt c (a + n) i) (suc (a + n)))
     unfolding finishBy demotionBy verdictBy firstIn
     next = let e : slotsBy c i a (suc (a + n)) ≡ suc n = rw (← add-suc) (slots-at (suc n) h) in rw e
 

@@ -54,8 +54,9 @@ module _ (c : Case) (i : ℕ) (l : i < maxTasks) (t : ℕ) where
 
   pub next-at : jobAt (stateAt c (suc t)) i ≡ pick (ranAt c t i) (workedJob (openAt c t i)) (openAt c t i)
   unfolding ranAt
-  next-at = ap (λ (r : Run). jobAt r i) (state-next c t) ∙ after-at i l (setupIn c) t (releasedAt c t) (stateAt c t) (state-full c t)
-      ∙ rw open-at
+  next-at =
+      ap (λ (r : Run). jobAt r i) (state-next c t) ∙
+      after-at i l (setupIn c) t (releasedAt c t) (stateAt c t) (state-full c t) ∙ rw open-at
 
 -- ---- the replay is a course
 abbrev pub replayOf : Case → Course
@@ -92,13 +93,14 @@ module _ (c : Case) (i a : ℕ) (s : Sole (replayOf c) i a) where
 
   -- after steps 1 and 2 of each of its slots
   pub ready : (n : ℕ) → n < deadline (c .table) i
-      → Stand (firstIn (λ t. finishedAt c t i) a n) (firstIn (λ t. demotedAt c t i) a n) (a + deadline (c .table) i) (readyAt c (a + n) i)
+      → Stand (firstIn (λ t. finishedAt c t i) a n) (firstIn (λ t. demotedAt c t i) a n)
+      (a + deadline (c .table) i) (readyAt c (a + n) i)
   ready n h = rw (same-finishes, same-demotions, replay-state c (a + n)) at (found-stands (replayOf c) i a s n h)
 
   -- and before step 1 of each time after its release, its deadline included
   pub stands : (n : ℕ) → n < deadline (c .table) i
-      → Stand (firstIn (λ t. finishedAt c t i) a (suc n)) (firstIn (λ t. demotedAt c t i) a (suc n)) (a + deadline (c .table) i)
-      (jobAt (stateAt c (suc (a + n))) i)
+      → Stand (firstIn (λ t. finishedAt c t i) a (suc n)) (firstIn (λ t. demotedAt c t i) a (suc n))
+      (a + deadline (c .table) i) (jobAt (stateAt c (suc (a + n))) i)
   stands n h = rw (same-finishes, same-demotions, replay-state c (suc (a + n))) at (left-stands (replayOf c) i a s n h)
 
 -- going l + k slots is going l, then k

@@ -87,54 +87,55 @@ module _ (c : Case) (g : Legal c) (t k : ℕ) (w : Reached (c .trace) k (suc t))
 
   module _ (i : ℕ) (l : i < maxTasks) where
     -- of a task that is not there no record changes
-    pub turn-idle : isPresent (openAt c t i) ≡ false → (j : ℕ) → j < releaseCount (c .trace) → nameOf (c .trace) j ≡ suc i
-        → recordBy c (suc t) j ≡ recordBy c t j
+    pub turn-idle : isPresent (openAt c t i) ≡ false
+        → (j : ℕ) → j < releaseCount (c .trace) → nameOf (c .trace) j ≡ suc i → recordBy c (suc t) j ≡ recordBy c t j
     turn-idle e j h q = keep j h (λ x y. let z : taskAt c j ≡ i = omega arith in rw z e)
 
-    pub record Live : Type 0 where
-      pub within : lastPlace (c .trace) k (suc i) < releaseCount (c .trace)
-      pub its : nameOf (c .trace) (lastPlace (c .trace) k (suc i)) ≡ suc i
+    -- the place of the task's last release
+    abbrev p : ℕ
+    p = lastPlace (c .trace) k (suc i)
+
+    -- of a task that is there: how the record of its last release stands and goes on, and that no other record of the task changes
+    pub record Lives : Type 0 where
+      pub within : p < releaseCount (c .trace)
+      pub its : nameOf (c .trace) p ≡ suc i
       pub early : t < dueOf (openAt c t i)
-      pub old : recordBy c t (lastPlace (c .trace) k (suc i)) ≡ recordOf 3 0 (recordBy c t (lastPlace (c .trace) k (suc i)) .demotion)
-      pub new : recordBy c (suc t) (lastPlace (c .trace) k (suc i)) ≡
-          noted t (finishedAt c t i) (demotedAt c t i) (dueOf (openAt c t i)) (recordBy c t (lastPlace (c .trace) k (suc i)) .demotion)
-      pub others : (j : ℕ) → j < releaseCount (c .trace) → nameOf (c .trace) j ≡ suc i → (j ≡ lastPlace (c .trace) k (suc i) → ⊥)
-          → recordBy c (suc t) j ≡ recordBy c t j
+      pub old : recordBy c t p ≡ recordOf 3 0 (recordBy c t p .demotion)
+      pub new : recordBy c (suc t) p ≡ noted t (finishedAt c t i) (demotedAt c t i) (dueOf (openAt c t i)) (recordBy c t p .demotion)
+      pub others : (j : ℕ) → j < releaseCount (c .trace) → nameOf (c .trace) j ≡ suc i → (j ≡ p → ⊥) → recordBy c (suc t) j ≡ recordBy c t j
 
     idle-open : readyAt c t i ≡ Idle → isPresent (openAt c t i) ≡ false
     idle-open e =
         kept-opened (demoting (c .policy)) (lowers (setupIn c) t (releasedAt c t) (stateAt c t)) (readyAt c t i) .there ∙ ap isPresent e
 
-    pub turn-live : isPresent (openAt c t i) ≡ true → Live
+    pub turn-live : isPresent (openAt c t i) ≡ true → Lives
     unfolding recordBy
     turn-live e = go (find-last (c .trace) k (suc i))
       where
-        p : ℕ
-        p = lastPlace (c .trace) k (suc i)
-
-        go : Last (c .trace) k (suc i) → Live
+        go : Last (c .trace) k (suc i) → Lives
         go (none f) = absurd (true≢false (sym e ∙ idle-open (never-released c i l t
             (λ u x. released-no (c .trace) _ u i (λ j h q r. early u x j h q r (decLt j k))))))
           where
-            early : (u : ℕ) → u ≤ t → (j : ℕ) → j < releaseCount (c .trace) → timeOf (c .trace) j ≡ u → nameOf (c .trace) j ≡ suc i
-                → Dec (j < k) → ⊥
+            early : (u : ℕ) → u ≤ t → (j : ℕ) → j < releaseCount (c .trace)
+                → timeOf (c .trace) j ≡ u → nameOf (c .trace) j ≡ suc i → Dec (j < k) → ⊥
             early u x j h q r (yes y) = f j y r
             early u x j h q r (no y) = omega (arith, w .behind j (omega arith) h)
         go (last b q f) =
-            let h : lastPlace (c .trace) k (suc i) < releaseCount (c .trace) = omega (arith, w .within) in
-            let z : taskAt c (lastPlace (c .trace) k (suc i)) ≡ i = omega arith in
+            let h : p < releaseCount (c .trace) = omega (arith, w .within) in
+            let z : taskAt c p ≡ i = omega arith in
             there h z (w .before _ b) (decLe (timeOf (c .trace) p + deadline (c .table) i) t)
           where
             there : p < releaseCount (c .trace) → taskAt c p ≡ i → timeOf (c .trace) p < suc t
-                → Dec (timeOf (c .trace) p + deadline (c .table) i ≤ t) → Live
+                → Dec (timeOf (c .trace) p + deadline (c .table) i ≤ t) → Lives
             there h z before (yes y) =
                 let s = rw z at (sole c g p h) in
                 let m = rw z at (good-at c g p h) in
                 absurd (true≢false (sym e ∙ idle-open (over c i (timeOf (c .trace) p) s (omega (arith, m .some, m .fits)) t y
                 (λ u x v. released-no (c .trace) _ u i (λ j n q r. between u x v j n q r (decLt p j) (decLt j k))))))
               where
-                between : (u : ℕ) → timeOf (c .trace) p < u → u ≤ t → (j : ℕ) → j < releaseCount (c .trace) → timeOf (c .trace) j ≡ u
-                    → nameOf (c .trace) j ≡ suc i → Dec (p < j) → Dec (j < k) → ⊥
+                between : (u : ℕ) → timeOf (c .trace) p < u → u ≤ t
+                    → (j : ℕ) → j < releaseCount (c .trace) → timeOf (c .trace) j ≡ u → nameOf (c .trace) j ≡ suc i
+                    → Dec (p < j) → Dec (j < k) → ⊥
                 between u x v j n q r (yes m) (yes o) = f j m o r
                 between u x v j n q r (yes m) (no o) = omega (arith, w .behind j (omega arith) n)
                 between u x v j n q r (no m) o = omega (arith, g .in-order j p (omega arith) h)
@@ -142,8 +143,8 @@ module _ (c : Case) (g : Legal c) (t k : ℕ) (w : Reached (c .trace) k (suc t))
                 let s = rw z at (sole c g p h) in
                 let m = rw z at (good-at c g p h) in
                 let d : timeOf (c .trace) p + (t - timeOf (c .trace) p) ≡ t = omega arith in
-                let v = live-at c i (timeOf (c .trace) p) s (omega (arith, m .some, m .fits)) (t - timeOf (c .trace) p) (omega arith)
-                (rw d e) in
+                let v = live-at c i (timeOf (c .trace) p) s (omega (arith, m .some, m .fits)) (t - timeOf (c .trace) p)
+                (omega arith) (rw d e) in
                 let u = rw d at v in
                 record {
                   within = h;
@@ -154,19 +155,20 @@ module _ (c : Case) (g : Legal c) (t k : ℕ) (w : Reached (c .trace) k (suc t))
                   others = λ j n r x. keep j n (λ a b. absurd (other j n r x a b (decLt j p) (decLt j k)));
                 }
               where
-                same-record : taskAt c p ≡ i → jobRecord c i (timeOf (c .trace) p) t ≡ recordOf 3 0 (demotionBy c i (timeOf (c .trace) p) t)
+                same-record : taskAt c p ≡ i
+                    → jobRecord c i (timeOf (c .trace) p) t ≡ recordOf 3 0 (demotionBy c i (timeOf (c .trace) p) t)
                     → recordBy c t p ≡ recordOf 3 0 (recordBy c t p .demotion)
                 same-record z b = rw z b
 
                 fresh-record : taskAt c p ≡ i → dueOf (openAt c t i) ≡ timeOf (c .trace) p + deadline (c .table) i
-                    → jobRecord c i (timeOf (c .trace) p) (suc t) ≡
-                    noted t (finishedAt c t i) (demotedAt c t i) (timeOf (c .trace) p + deadline (c .table) i)
+                    → jobRecord c i (timeOf (c .trace) p) (suc t)
+                    ≡ noted t (finishedAt c t i) (demotedAt c t i) (timeOf (c .trace) p + deadline (c .table) i)
                     (demotionBy c i (timeOf (c .trace) p) t)
                     → recordBy c (suc t) p ≡ noted t (finishedAt c t i) (demotedAt c t i) (dueOf (openAt c t i)) (recordBy c t p .demotion)
                 fresh-record z a b = rw (z, a) b
 
-                other : (j : ℕ) → j < releaseCount (c .trace) → nameOf (c .trace) j ≡ suc i → (j ≡ p → ⊥) → timeOf (c .trace) j ≤ t
-                    → t < timeOf (c .trace) j + deadline (c .table) (taskAt c j) → Dec (j < p) → Dec (j < k) → ⊥
+                other : (j : ℕ) → j < releaseCount (c .trace) → nameOf (c .trace) j ≡ suc i → (j ≡ p → ⊥)
+                    → timeOf (c .trace) j ≤ t → t < timeOf (c .trace) j + deadline (c .table) (taskAt c j) → Dec (j < p) → Dec (j < k) → ⊥
                 other j n r x a b (yes o) v =
                     let same : nameOf (c .trace) j ≡ nameOf (c .trace) p = r ∙ sym q in
                     omega (arith, g .separate j p o h same, good-at c g j n .within, ap (λ (v : ℕ). period (c .table) (v - 1)) same)

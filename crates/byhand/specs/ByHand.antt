@@ -140,9 +140,11 @@ two-tasks policy = entry (replaying (two policy) six) (leaving (2 ∷ 0 ∷ 0 �
 
 abbrev pub byHand : List Entry
 byHand =
-    availability-10-4 ∷ counts-A ∷ slot-0-A-edf ∷ slot-0-A-edf-cf ∷ A-edf ∷ A-edf-cf ∷ counts-B ∷ B-10 edf ∷ B-10 edfCf ∷ B-9 edf
-    ∷ B-9 edfCf ∷
-    counts-one ∷ execution-one ∷ one-task ∷ two-tasks edf ∷ two-tasks edfCf ∷ []
+    availability-10-4 ∷
+    counts-A ∷ slot-0-A-edf ∷ slot-0-A-edf-cf ∷ A-edf ∷ A-edf-cf ∷
+    counts-B ∷ B-10 edf ∷ B-10 edfCf ∷ B-9 edf ∷ B-9 edfCf ∷
+    counts-one ∷ execution-one ∷ one-task ∷
+    two-tasks edf ∷ two-tasks edfCf ∷ []
 
 -- ---- each entry, computed
 abbrev Stands : Entry → Type 0
@@ -157,8 +159,10 @@ unfolding replayAnswer replayRoom roomAfter
 answered c rs room e = rw (← e) refl
 
 -- the entries without a replay
-asked : Stands availability-10-4 × Stands counts-A × Stands slot-0-A-edf × Stands slot-0-A-edf-cf × Stands counts-B × Stands counts-one
-    × Stands execution-one
+asked :
+    Stands availability-10-4 ×
+    Stands counts-A × Stands slot-0-A-edf × Stands slot-0-A-edf-cf ×
+    Stands counts-B × Stands counts-one × Stands execution-one
 unfolding sum tab mapFrom availability availabilities count freeCount
     present judged joined demoted jobsNow contentionFree lowered opened jobBefore rank chosen worked after ran setNumber
     releasedIn stateFrom stateAt ranAt
@@ -184,8 +188,9 @@ known = (refl, refl, refl, refl, refl, refl, refl, refl, refl)
 
 -- what the replay answers and leaves
 replayed :
-    Stands A-edf × Stands A-edf-cf × Stands (B-10 edf) × Stands (B-10 edfCf) × Stands (B-9 edf) × Stands (B-9 edfCf) × Stands one-task
-    × Stands (two-tasks edf) × Stands (two-tasks edfCf)
+    Stands A-edf × Stands A-edf-cf ×
+    Stands (B-10 edf) × Stands (B-10 edfCf) × Stands (B-9 edf) × Stands (B-9 edfCf) ×
+    Stands one-task × Stands (two-tasks edf) × Stands (two-tasks edfCf)
 unfolding marked numbers
     orNext firstOf procsFault policyFault tableFault taskFault endFault traceFault inOrder lastBefore releaseFault roomFault
     caseFault replayFault settled kept
@@ -207,9 +212,8 @@ also e es = ap₂ _∷_ e es
 
 pub all-stand : map (λ (e : Entry). e .given) byHand ≡ map (λ (e : Entry). e .said) byHand
 all-stand =
-    also (asked .0) (also (asked .1) (also (asked .2)
-    (also (asked .3) (also (replayed .0)
-    (also (replayed .1) (also (asked .4)
-    (also (replayed .2) (also (replayed .3)
-    (also (replayed .4) (also (replayed .5)
-    (also (asked .5) (also (asked .6) (also (replayed .6) (also (replayed .7) (also (replayed .8) refl)))))))))))))))
+    also (asked .0)
+    (also (asked .1) (also (asked .2) (also (asked .3) (also (replayed .0) (also (replayed .1)
+    (also (asked .4) (also (replayed .2) (also (replayed .3) (also (replayed .4) (also (replayed .5)
+    (also (asked .5) (also (asked .6) (also (replayed .6)
+    (also (replayed .7) (also (replayed .8) refl)))))))))))))))

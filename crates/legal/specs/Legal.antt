@@ -156,8 +156,7 @@ counts-clear m ts room e =
     record {
       procs = procs-clear m (w .0);
       sound = sound-table ts (w .1 .0) (w .1 .1 .0);
-      roomy =
-          room-clear (taskCount ts) room (w .1 .1 .1 .0);
+      roomy = room-clear (taskCount ts) room (w .1 .1 .1 .0);
     }
 
 pub replay-clear : (c : Case) (room : ℕ) → replayFault c room .number ≡ 0 → Accepted c × (releaseCount (c .trace) * recordWidth ≤ room)

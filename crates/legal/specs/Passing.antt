@@ -84,8 +84,8 @@ module _ (ts : List ℕ) (i : ℕ) where
   unfolding taskFault
   task-none e = unless-none (taskStands (period ts i) (execution ts i) (deadline ts i)) 6 (suc i) (omega arith) e
 
-pub tasks-clear : (ts : List ℕ) → tasksFault ts .number ≡ 0 → (i : ℕ) → i < taskCount ts
-    → Good (period ts i) (execution ts i) (deadline ts i)
+pub tasks-clear : (ts : List ℕ) → tasksFault ts .number ≡ 0
+    → (i : ℕ) → i < taskCount ts → Good (period ts i) (execution ts i) (deadline ts i)
 tasks-clear ts e i h = task-clear ts i (firstOf-clear (taskFault ts) (taskCount ts) e i h)
 
 -- a table that stands: it passes 5 and 6
@@ -147,8 +147,8 @@ module _ (ts : List ℕ) (e : ℕ) (rs : List ℕ) (j : ℕ) where
   unfolding releaseFault
   release-none h = let tests = releaseTests ts e rs j in row-none tests (row-clear tests h)
 
-pub releases-clear : (ts : List ℕ) (e : ℕ) (rs : List ℕ) → releasesFault ts e rs .number ≡ 0 → (j : ℕ) → j < releaseCount rs
-    → Released ts e rs j
+pub releases-clear : (ts : List ℕ) (e : ℕ) (rs : List ℕ) → releasesFault ts e rs .number ≡ 0
+    → (j : ℕ) → j < releaseCount rs → Released ts e rs j
 releases-clear ts e rs h j l = release-clear ts e rs j (firstOf-clear (releaseFault ts e rs) (releaseCount rs) h j l)
 
 -- ---- 13: the room, both ways

@@ -28,8 +28,8 @@ pub keep-all : {A : Type 0} (xs : List A) → mapAt (λ i x. x) xs ≡ xs
 keep-all xs = keep-from 0 xs
 
 -- two changes that agree on the elements that are there
-pub same-each : {A : Type 0} (f g : ℕ → A → A) (xs : List A) (d : A) → ((i : ℕ) → i < length xs → f i (getD xs i d) ≡ g i (getD xs i d))
-    → mapAt f xs ≡ mapAt g xs
+pub same-each : {A : Type 0} (f g : ℕ → A → A) (xs : List A) (d : A)
+    → ((i : ℕ) → i < length xs → f i (getD xs i d) ≡ g i (getD xs i d)) → mapAt f xs ≡ mapAt g xs
 same-each f g xs d h =
     ext-getD d (mapAt f xs) (mapAt g xs) (mapFrom-long f 0 xs ∙ sym (mapFrom-long g 0 xs))
     (λ i l. let k : i < length xs = omega (arith, mapFrom-long f 0 xs) in mapAt-at f xs i d k ∙ h i k ∙ sym (mapAt-at g xs i d k))

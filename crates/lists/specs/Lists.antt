@@ -1,6 +1,6 @@
 -- Lists made or changed by index, texts that stand one after the other, and choices: laws of `tab`, `mapAt`, `pick` (rules, Words) and
--- `joinedText` (rules, Writer). Nothing of scheduling. A run is a list of tasks, and the records are a list of numbers: most laws cite
--- these.
+-- `joinedText` (rules, Writer). Nothing of scheduling.
+-- A run is a list of tasks, and the records are a list of numbers: most laws cite these.
 use mathlib.Core.Path.{_≡_, refl, sym, ap, ap₂, _∙_}
 use mathlib.Core.Bool.{Bool, true, false}
 use mathlib.Core.Logic.{_⊎_, inl, inr}
@@ -29,12 +29,12 @@ pub mapAt-at : {A : Type 0} (f : ℕ → A → A) (xs : List A) (i : ℕ) (d : A
 mapAt-at f xs i d h = mapFrom-at f 0 xs i d h ∙ rw (zero-add i)
 
 -- two maps that agree at each index are one
-pub mapFrom-cong : {A : Type 0} (f g : ℕ → A → A) (k : ℕ) (xs : List A) → ((i : ℕ) (x : A) → k ≤ i → i < k + length xs → f i x ≡ g i x)
-    → mapFrom f k xs ≡ mapFrom g k xs
+pub mapFrom-cong : {A : Type 0} (f g : ℕ → A → A) (k : ℕ) (xs : List A)
+    → ((i : ℕ) (x : A) → k ≤ i → i < k + length xs → f i x ≡ g i x) → mapFrom f k xs ≡ mapFrom g k xs
 unfolding mapFrom
 mapFrom-cong f g k [] h = refl
-mapFrom-cong f g k (x ∷ xs) h = ap₂ _∷_ (h k x (omega arith) (omega arith))
-    (mapFrom-cong f g (suc k) xs (λ i y p q. h i y (omega arith) (omega arith)))
+mapFrom-cong f g k (x ∷ xs) h =
+    ap₂ _∷_ (h k x (omega arith) (omega arith)) (mapFrom-cong f g (suc k) xs (λ i y p q. h i y (omega arith) (omega arith)))
 
 pub tab-long : {A : Type 0} (f : ℕ → A) (k n : ℕ) → length (tab f k n) ≡ n
 unfolding tab
@@ -65,19 +65,19 @@ tab-snoc f k zero = rw (add-zero k)
 tab-snoc f k (suc n) = ap (λ l. f k ∷ l) (tab-snoc f (suc k) n ∙ rw (add-suc, suc-add))
 
 -- a store at one index, where the lists agree elsewhere
-tab-set-from : {A : Type 0} (f g : ℕ → A) (k n j : ℕ) → j < n → ((i : ℕ) → k ≤ i → i < k + n → (i ≡ k + j → ⊥) → f i ≡ g i)
-    → set (tab f k n) j (g (k + j)) ≡ tab g k n
+tab-set-from : {A : Type 0} (f g : ℕ → A) (k n j : ℕ) → j < n
+    → ((i : ℕ) → k ≤ i → i < k + n → (i ≡ k + j → ⊥) → f i ≡ g i) → set (tab f k n) j (g (k + j)) ≡ tab g k n
 unfolding tab
 tab-set-from f g k zero j l h = absurd (not-suc-le-zero l)
-tab-set-from f g k (suc n) zero l h = rw (add-zero k)
-    (ap (λ l. g k ∷ l) (tab-cong f g (suc k) n (λ i p q. h i (omega arith) (omega arith) (λ e. omega arith))))
+tab-set-from f g k (suc n) zero l h =
+    rw (add-zero k) (ap (λ l. g k ∷ l) (tab-cong f g (suc k) n (λ i p q. h i (omega arith) (omega arith) (λ e. omega arith))))
 tab-set-from f g k (suc n) (suc j) l h =
     ap₂ _∷_ (h k (omega arith) (omega arith) (λ e. omega arith))
     (rw (add-suc, ← suc-add) (tab-set-from f g (suc k) n j (omega arith)
     (λ i p q e. h i (omega arith) (omega arith) (λ z. e (omega arith)))))
 
-pub tab-set : {A : Type 0} (f g : ℕ → A) (n j : ℕ) → j < n → ((i : ℕ) → i < n → (i ≡ j → ⊥) → f i ≡ g i)
-    → set (tab f 0 n) j (g j) ≡ tab g 0 n
+pub tab-set : {A : Type 0} (f g : ℕ → A) (n j : ℕ) → j < n
+    → ((i : ℕ) → i < n → (i ≡ j → ⊥) → f i ≡ g i) → set (tab f 0 n) j (g j) ≡ tab g 0 n
 tab-set f g n j l h = rw (zero-add) at (tab-set-from f g 0 n j l (λ i p q e. h i (omega arith) (λ z. e (omega arith))))
 
 -- ---- one after the other

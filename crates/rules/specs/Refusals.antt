@@ -119,7 +119,10 @@ caseTests c =
     procsFault (c .procs) ∷
     policyFault (c .policy) ∷
     tableFault (c .table) ∷
-    tasksFault (c .table) ∷ endFault (c .end) ∷ traceFault (c .trace) ∷ releasesFault (c .table) (c .end) (c .trace) ∷ []
+    tasksFault (c .table) ∷
+    endFault (c .end) ∷
+    traceFault (c .trace) ∷
+    releasesFault (c .table) (c .end) (c .trace) ∷ []
 
 unfoldable pub caseFault : Case → Fault
 caseFault c = first (caseTests c)

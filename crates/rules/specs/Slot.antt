@@ -149,8 +149,8 @@ readied g now released r = joined g now released (judged now r)
 unfoldable pub opened : Setup → ℕ → TaskSet → Run → Run
 opened g now released r = lowered g (demoted g (readied g now released r))
 
--- ---- step 5: normal jobs come before demoted ones; within each kind, earlier deadline first, and on equal deadlines the lower task
--- number
+-- ---- step 5: normal jobs come before demoted ones; within each kind, earlier deadline first,
+-- and on equal deadlines the lower task number
 -- the kind of a job under a policy at a time: the lower kind comes first (an idle task has none and stands last)
 abbrev pub kind : ℕ → ℕ → Job → ℕ
 kind policy now (Normal left free due) = 0

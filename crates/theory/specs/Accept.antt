@@ -47,8 +47,8 @@ module _ (c : Case) (g : Legal c) where
       go (x .0) (y .0) (x .1) (y .1) (decLt (x .0) (y .0))
     where
       go : (j k : ℕ) → (j < releaseCount (c .trace)) × (timeOf (c .trace) j ≡ u) × (nameOf (c .trace) j ≡ suc i)
-          → (k < releaseCount (c .trace)) × (timeOf (c .trace) k ≡ v) × (nameOf (c .trace) k ≡ suc i) → Dec (j < k)
-          → u + period (c .table) i ≤ v
+          → (k < releaseCount (c .trace)) × (timeOf (c .trace) k ≡ v) × (nameOf (c .trace) k ≡ suc i)
+          → Dec (j < k) → u + period (c .table) i ≤ v
       go j k x y (yes l) =
           let z : nameOf (c .trace) k - 1 ≡ i = omega (arith, y .2) in
           omega (arith, g .separate j k l (y .0) (x .2 ∙ sym (y .2)), x .1, y .1, ap (period (c .table)) z)

@@ -57,8 +57,8 @@ count-one p a (suc l) h = go (p (a + l)) refl (count-one p a l (λ i j x y. h i 
         other t y true q = absurd (h t (a + l) y (omega arith) q e)
 
 -- a test that one passes, and no two
-pub count-only : (p : ℕ → Bool) (a l j : ℕ) → a ≤ j → j < a + l → p j ≡ true → ((i j : ℕ) → i < j → j < a + l → p i ≡ true → p j ≡ true → ⊥)
-    → countIn p a l ≡ 1
+pub count-only : (p : ℕ → Bool) (a l j : ℕ) → a ≤ j → j < a + l → p j ≡ true
+    → ((i j : ℕ) → i < j → j < a + l → p i ≡ true → p j ≡ true → ⊥) → countIn p a l ≡ 1
 count-only p a l j x y e h = omega (arith, count-one p a l h, count-lt (λ t. false) p a l (λ t u v q. absurd (false≢true q)) j x y refl e)
 
 -- ---- Markov's inequality: the slots in which f is over m have at least m + 1 each of f's sum
@@ -124,8 +124,7 @@ module _ (p : ℕ → Bool) (rank : ℕ → ℕ) (l : ℕ)
   at-most : (m : ℕ) → firsts m ≤ m
   at-most zero = omega (
     arith,
-    count-none (λ i. p i && ltb (rank i) 0) 0 l (λ i x y. rw (le-ltb (rank i) 0 (omega arith))
-        (and-false (p i))),
+    count-none (λ i. p i && ltb (rank i) 0) 0 l (λ i x y. rw (le-ltb (rank i) 0 (omega arith)) (and-false (p i))),
   )
   at-most (suc m) = omega (arith, one-more m, at-most m)
 

@@ -34,8 +34,12 @@ use Rattle.theory.specs.Verdicts.{met-by-finish, finish-of-met}
 -- 2 for one job with any free count. A job is released at a with execution C ≥ 1 and free count F, and its slots go by steps 3 to 6 of a
 -- policy that demotes. If F is at most the number of contention-free slots among its first D, and it is worked in each of these that
 -- finds it there, then, once demoted, it is finished after D slots. How F comes about is not asked, nor what the other jobs do.
-pub any-count-finishes : (calm works : ℕ → Bool) (a C F due D : ℕ) → 1 ≤ C → Attended calm works a (Normal C F due) D → F ≤ countIn calm a D
-    → (n : ℕ) → n ≤ D → isDemoted (story calm works a (Normal C F due) n) ≡ true → story calm works a (Normal C F due) D ≡ Idle
+pub any-count-finishes : (calm works : ℕ → Bool) (a C F due D : ℕ)
+    → 1 ≤ C
+    → Attended calm works a (Normal C F due) D
+    → F ≤ countIn calm a D
+    → (n : ℕ) → n ≤ D → isDemoted (story calm works a (Normal C F due) n) ≡ true
+    → story calm works a (Normal C F due) D ≡ Idle
 any-count-finishes calm works a C F due D some att enough n h dem = story-finishes calm works a C F due D some att enough n h dem
 
 -- ---- any course: slots in which any sets are worked
@@ -47,17 +51,26 @@ course-free-slots k g a l = enough k g a l
 -- 2 for a course. A job of the task at i is released at a, and nothing more of the task before that job's deadline. If its free count is
 -- at most the number of contention-free slots from release to deadline, and every job that is there in a contention-free slot is worked
 -- in it, then the job, once demoted, finishes by its deadline. What the other tasks release is not asked.
-pub course-demoted-finishes : (k : Course) (e i a : ℕ) → Alone k i a → demoting (k .setup .policy) ≡ true → Attends k e
+pub course-demoted-finishes : (k : Course) (e i a : ℕ)
+    → Alone k i a
+    → demoting (k .setup .policy) ≡ true
+    → Attends k e
     → a + deadline (k .setup .table) i ≤ e
-    → freeCountIn (k .setup) i ≤ countIn (contentionFreeIn k) a (deadline (k .setup .table) i) → 0 < demotionIn k i a
+    → freeCountIn (k .setup) i ≤ countIn (contentionFreeIn k) a (deadline (k .setup .table) i)
+    → 0 < demotionIn k i a
     → (a < finishIn k i a) × (finishIn k i a ≤ a + deadline (k .setup .table) i)
 unfolding finishIn
 course-demoted-finishes k e i a s cf att come enough d =
     first-in (λ t. finishedIn k t i) a (deadline (k .setup .table) i) (demoted-finishes k i a s cf e att come enough d)
 
 -- 2 for a course with lawful releases: by part 1 document 01's count is never too high
-pub course-demoted-meets : (k : Course) (e i a : ℕ) → Lawful k → demoting (k .setup .policy) ≡ true → Attends k e → k .released a i ≡ true
-    → a + deadline (k .setup .table) i ≤ e → 0 < demotionIn k i a
+pub course-demoted-meets : (k : Course) (e i a : ℕ)
+    → Lawful k
+    → demoting (k .setup .policy) ≡ true
+    → Attends k e
+    → k .released a i ≡ true
+    → a + deadline (k .setup .table) i ≤ e
+    → 0 < demotionIn k i a
     → (a < finishIn k i a) × (finishIn k i a ≤ a + deadline (k .setup .table) i)
 unfolding freeCount
 course-demoted-meets k e i a g cf att r come d =
@@ -89,7 +102,8 @@ free-slots c ok j h =
 
 -- 2. Of an accepted case under a policy that demotes, whatever the other tasks release: a job whose record says that it was demoted has a
 -- record that says met, with a finish after its release and not after its deadline.
-pub demoted-meets : (c : Case) → Accepted c → demoting (c .policy) ≡ true → (j : ℕ) → Judged c j → 0 < recordBy c (c .end) j .demotion
+pub demoted-meets : (c : Case) → Accepted c → demoting (c .policy) ≡ true
+    → (j : ℕ) → Judged c j → 0 < recordBy c (c .end) j .demotion
     → (recordBy c (c .end) j .verdict ≡ 1) × (timeOf (c .trace) j < recordBy c (c .end) j .finish)
     × (recordBy c (c .end) j .finish ≤ dueAt c j)
 unfolding recordBy verdictBy
@@ -99,14 +113,15 @@ demoted-meets c ok cf j h d =
     let g = legal c ok in
     let f = finish-same c i a (c .end) (h .1) in
     let p : 0 < demotionIn (replayOf c) i a = omega (arith, demotion-same c i a (c .end) (h .1)) in
-    let r = course-demoted-meets (replayOf c) (c .end) i a (lawful c g) cf (replay-attends c (c .end)) (sole c g j (h .0) .released)
-    (h .1) p in
+    let r = course-demoted-meets (replayOf c) (c .end) i a (lawful c g) cf (replay-attends c (c .end))
+    (sole c g j (h .0) .released) (h .1) p in
     let some : 0 < finishBy c i a (c .end) = omega (arith, f, r .0) in
     (met-by-finish _ _ some, omega (arith, f, r .0), omega (arith, f, r .1))
 
 -- 3. Of an accepted case under a policy that demotes: a job whose record under EDF says met has a record that says met.
-pub edf-met-stays-met : (c : Case) → Accepted c → demoting (c .policy) ≡ true → (j : ℕ) → Judged c j
-    → recordBy (under edf c) (c .end) j .verdict ≡ 1 → recordBy c (c .end) j .verdict ≡ 1
+pub edf-met-stays-met : (c : Case) → Accepted c → demoting (c .policy) ≡ true
+    → (j : ℕ) → Judged c j → recordBy (under edf c) (c .end) j .verdict ≡ 1
+    → recordBy c (c .end) j .verdict ≡ 1
 unfolding recordBy verdictBy
 edf-met-stays-met c ok cf j h e = go (stand-due E e-legal j (h .0) (c .end) (h .1)) (stand-due c c-legal j (h .0) (c .end) (h .1))
   where
@@ -149,6 +164,7 @@ edf-met-stays-met c ok cf j h e = go (stand-due E e-legal j (h .0) (c .end) (h .
         (dominated c cf due i (sole c c-legal j (h .0) .task)) z (v .there)))
 
 -- 3 of document 01's two policies, whatever the case's own: met under EDF is met under EDF-CF
-pub edf-met-stays-met-cf : (c : Case) → Accepted c → (j : ℕ) → Judged c j
-    → recordBy (under edf c) (c .end) j .verdict ≡ 1 → recordBy (under edfCf c) (c .end) j .verdict ≡ 1
+pub edf-met-stays-met-cf : (c : Case) → Accepted c
+    → (j : ℕ) → Judged c j → recordBy (under edf c) (c .end) j .verdict ≡ 1
+    → recordBy (under edfCf c) (c .end) j .verdict ≡ 1
 edf-met-stays-met-cf c ok j h e = edf-met-stays-met (under edfCf c) (accepted-under c ok edfCf (omega arith)) refl j h e

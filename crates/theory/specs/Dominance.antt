@@ -51,7 +51,8 @@ dom-opened cf calm a b h p q =
     record { there = d .there; normal = d .normal; due = d .due ∙ sym (k .due); left = omega (arith, d .left, k .left) }
 
 -- ---- step 5: whoever comes before a normal job under a policy that demotes comes before it under EDF
-before : (p now : ℕ) (x y a b : Job) (j i : ℕ) → demoting p ≡ true → Dom x y → Dom a b → isPresent b ≡ true → isDemoted b ≡ false
+before : (p now : ℕ) (x y a b : Job) (j i : ℕ) → demoting p ≡ true
+    → Dom x y → Dom a b → isPresent b ≡ true → isDemoted b ≡ false
     → jobBefore p now y j b i ≡ true → jobBefore edf now x j a i ≡ true
 unfolding jobBefore
 before p now x y a b j i cf over-y over-b there normal e = go (isDemoted y) refl (and-left (isPresent y) _ e)
@@ -92,7 +93,8 @@ module _ (c : Case) (cf : demoting (c .policy) ≡ true) where
   ready-dom : (t i : ℕ) → Dom (jobAt (stateAt E t) i) (jobAt (stateAt c t) i) → Dom (readyAt E t i) (readyAt c t i)
   ready-dom t i h = go (releasedAt E t i)
     where
-      go : (x : Bool) → Dom (pick x (releasedJob (setupIn E) t i) (judgedJob t (jobAt (stateAt E t) i)))
+      go : (x : Bool)
+          → Dom (pick x (releasedJob (setupIn E) t i) (judgedJob t (jobAt (stateAt E t) i)))
           (pick x (releasedJob (setupIn c) t i) (judgedJob t (jobAt (stateAt c t) i)))
       go true = λ p q. record { there = refl; normal = refl; due = refl; left = omega arith }
       go false = dom-judged t (jobAt (stateAt E t) i) (jobAt (stateAt c t) i) h
@@ -100,8 +102,8 @@ module _ (c : Case) (cf : demoting (c .policy) ≡ true) where
   open-dom : (t i : ℕ) → Dom (readyAt E t i) (readyAt c t i) → Dom (openAt E t i) (openAt c t i)
   open-dom t i h = dom-opened (demoting (c .policy)) (lowers (setupIn c) t (releasedAt c t) (stateAt c t)) (readyAt E t i) (readyAt c t i) h
 
-  runs-dom : (t i : ℕ) → i < maxTasks → ((j : ℕ) → j < maxTasks → Dom (openAt E t j) (openAt c t j)) → isPresent (openAt c t i) ≡ true
-      → isDemoted (openAt c t i) ≡ false → ranAt E t i ≡ true → ranAt c t i ≡ true
+  runs-dom : (t i : ℕ) → i < maxTasks → ((j : ℕ) → j < maxTasks → Dom (openAt E t j) (openAt c t j))
+      → isPresent (openAt c t i) ≡ true → isDemoted (openAt c t i) ≡ false → ranAt E t i ≡ true → ranAt c t i ≡ true
   unfolding ranAt ran chosen present rank
   runs-dom t i l h p q e =
       let oe = opened (setupIn E) t (releasedAt E t) (stateAt E t) in

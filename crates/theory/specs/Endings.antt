@@ -46,8 +46,8 @@ module _ (c : Case) (g : Legal c) (i : ℕ) (l : i < maxTasks) where
   left-from e = rw left-at (judged-from (replayOf c) i (c .end) (jobAt (stateAt c (c .end)) i) (from-release (c .end)) (rw left-at at e))
 
   -- the release that a job comes from, by its place in the trace
-  place : (t u : ℕ) (x : Job) → From (replayOf c) i t u x → (j : ℕ)
-      × ((j < releaseCount (c .trace)) × (taskAt c j ≡ i) × (dueOf x ≡ timeOf (c .trace) j + deadline (c .table) i))
+  place : (t u : ℕ) (x : Job) → From (replayOf c) i t u x
+      → (j : ℕ) × ((j < releaseCount (c .trace)) × (taskAt c j ≡ i) × (dueOf x ≡ timeOf (c .trace) j + deadline (c .table) i))
   place t u x f =
       let r = released-some (c .trace) (releaseCount (c .trace)) (f .at) i (f .released) in
       (r .0, (r .1 .0, omega (arith, r .1 .2), omega (arith, f .due, r .1 .1)))
@@ -73,7 +73,8 @@ module _ (c : Case) (g : Legal c) (j : ℕ) (h : j < releaseCount (c .trace)) wh
       let come : due ≤ c .end = leb-true _ _ (r .1) in
       (come, go (r .0) (stand-due c g j h (c .end) come))
     where
-      go : finishBy c i a (c .end) ≡ 0 → Stand (finishBy c i a (c .end)) (demotionBy c i a (c .end)) due (jobAt (stateAt c due) i)
+      go : finishBy c i a (c .end) ≡ 0
+          → Stand (finishBy c i a (c .end)) (demotionBy c i a (c .end)) due (jobAt (stateAt c due) i)
           → isMissed due (jobAt (stateAt c due) i) ≡ true
       go z (inl (q, v)) = rw (v .there) (eq-eqb _ _ (v .its))
       go z (inr (p, q)) = absurd (omega arith)
@@ -126,8 +127,8 @@ module _ (c : Case) (g : Legal c) (j : ℕ) (h : j < releaseCount (c .trace)) wh
 
 -- ---- each job removed or left is that of a release
 module _ (c : Case) (g : Legal c) (i : ℕ) (l : i < maxTasks) where
-  pub removed-release : (t : ℕ) → missedAt c t i ≡ true → (j : ℕ)
-      × ((j < releaseCount (c .trace)) × (taskAt c j ≡ i) × (timeOf (c .trace) j + deadline (c .table) i ≡ t))
+  pub removed-release : (t : ℕ) → missedAt c t i ≡ true
+      → (j : ℕ) × ((j < releaseCount (c .trace)) × (taskAt c j ≡ i) × (timeOf (c .trace) j + deadline (c .table) i ≡ t))
   unfolding missedAt missed
   removed-release t e =
       let x = jobAt (stateAt c t) i in
@@ -136,8 +137,8 @@ module _ (c : Case) (g : Legal c) (i : ℕ) (l : i < maxTasks) where
       (r .0, (r .1 .0, r .1 .1, omega (arith, r .1 .2)))
 
   pub left-release : isPresent (jobAt (closing c) i) ≡ true
-      → (j : ℕ) × ((j < releaseCount (c .trace)) × (taskAt c j ≡ i)
-      × (dueOf (jobAt (closing c) i) ≡ timeOf (c .trace) j + deadline (c .table) i))
+      → (j : ℕ)
+      × ((j < releaseCount (c .trace)) × (taskAt c j ≡ i) × (dueOf (jobAt (closing c) i) ≡ timeOf (c .trace) j + deadline (c .table) i))
   left-release e = place c g i l _ _ (jobAt (closing c) i) (left-from c g i l e)
 
 -- ---- the open records are as many as the jobs that are left
@@ -153,7 +154,8 @@ module _ (c : Case) (g : Legal c) where
   abbrev opens : ℕ → ℕ → Bool
   opens i j = isOpen j && eqb (taskAt c j) i
 
-  left-of : (i j : ℕ) → j < n → opens i j ≡ true → (taskAt c j ≡ i) × (isPresent (jobAt (closing c) i) ≡ true)
+  left-of : (i j : ℕ) → j < n → opens i j ≡ true
+      → (taskAt c j ≡ i) × (isPresent (jobAt (closing c) i) ≡ true)
       × (dueOf (jobAt (closing c) i) ≡ timeOf (c .trace) j + deadline (c .table) i)
   unfolding recordBy verdictBy
   left-of i j h e =

@@ -58,8 +58,7 @@ module _ (k : Course) (i : ℕ) where
             released = f .released;
             past = f .past;
             due = f .due;
-            ahead =
-                ahead f (eq-or-lt-of-le {n = t} {m = f .at + D} (f .ahead));
+            ahead = ahead f (eq-or-lt-of-le {n = t} {m = f .at + D} (f .ahead));
           }
         where
           ahead : (f : From k i t t j) → (t ≡ f .at + D) ⊎ (t < f .at + D) → t < f .at + D
@@ -89,8 +88,7 @@ module _ (k : Course) (i : ℕ) where
           released = f .released;
           past = f .past;
           due = ap dueOf (next-in k t i l) ∙ w .1 ∙ m .due ∙ f .due;
-          ahead =
-              f .ahead;
+          ahead = f .ahead;
         }
 
     -- after steps 1 and 2 of t
@@ -106,8 +104,8 @@ module _ (k : Course) (g : Lawful k) where
   jobsAt t = countIn (λ i. isPresent (foundIn k t i)) 0 maxTasks
 
   -- the slots of a window in which a task has a job
-  task-slots : (i : ℕ) → i < taskCount ts → (a l : ℕ) → countIn (λ t. isPresent (foundIn k t i)) a l
-      ≤ availability (period ts i) (deadline ts i) l
+  task-slots : (i : ℕ) → i < taskCount ts → (a l : ℕ)
+      → countIn (λ t. isPresent (foundIn k t i)) a l ≤ availability (period ts i) (deadline ts i) l
   task-slots i h a l =
       let m = g .good i h in
       let rel : ℕ → Bool = λ t. k .released t i in

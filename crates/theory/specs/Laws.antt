@@ -45,8 +45,10 @@ pub at-most-run : (c : Case) (t : ℕ) → countIn (ranAt c t) 0 maxTasks ≤ c 
 at-most-run c t = omega (arith, exactly-run c t)
 
 -- where a demoted job runs, every normal job that is there runs too
-pub normal-first : (c : Case) (t i j : ℕ) → j < maxTasks → ranAt c t i ≡ true → isDemoted (jobAt (openedAt c t) i) ≡ true
-    → present (openedAt c t) j ≡ true → isDemoted (jobAt (openedAt c t) j) ≡ false → ranAt c t j ≡ true
+pub normal-first : (c : Case) (t i j : ℕ) → j < maxTasks
+    → ranAt c t i ≡ true → isDemoted (jobAt (openedAt c t) i) ≡ true
+    → present (openedAt c t) j ≡ true → isDemoted (jobAt (openedAt c t) j) ≡ false
+    → ranAt c t j ≡ true
 unfolding ranAt ran
 normal-first c t i j l e dem there norm = demoted-last (setupIn c) t (openedAt c t) j i l e dem there norm
 
@@ -74,7 +76,8 @@ met-is-finished c j = (finish-of-met _ _, met-by-finish _ _)
 -- ---- what a record depends on
 -- a job's record does not depend on what is released at or after its deadline: two traces with the same sets released before it, the job
 -- among them, give it the same record at the end
-pub later-releases : (c : Case) (rs : List ℕ) (j k : ℕ) → timeOf rs k ≡ timeOf (c .trace) j → nameOf rs k ≡ nameOf (c .trace) j
+pub later-releases : (c : Case) (rs : List ℕ) (j k : ℕ)
+    → timeOf rs k ≡ timeOf (c .trace) j → nameOf rs k ≡ nameOf (c .trace) j
     → ((t i : ℕ) → t < dueAt c j → releasedAt c t i ≡ releasedAt (retraced rs c) t i)
     → recordBy (retraced rs c) (c .end) k ≡ recordBy c (c .end) j
 unfolding recordBy
@@ -98,8 +101,8 @@ removed-is-missed c ok t i come l e =
 
 -- open is: there, with its deadline, when step 1 of the end is done
 pub open-is-left : (c : Case) → Accepted c → (j : ℕ) → j < releaseCount (c .trace)
-    → (recordBy c (c .end) j .verdict ≡ 3) ↔ ((present (closing c) (taskAt c j) ≡ true)
-    × (dueOf (jobAt (closing c) (taskAt c j)) ≡ dueAt c j))
+    → (recordBy c (c .end) j .verdict ≡ 3)
+    ↔ ((present (closing c) (taskAt c j) ≡ true) × (dueOf (jobAt (closing c) (taskAt c j)) ≡ dueAt c j))
 unfolding recordBy verdictBy present
 open-is-left c ok j h = (open-left c (legal c ok) j h, λ e. left-open c (legal c ok) j h (e .0) (e .1))
 

@@ -38,7 +38,8 @@ turn-same a b x e h = rw (eq-eqb a b e, h) (go (ltb a b))
     go true = refl
     go false = refl
 
-turn-trans : (a b c : ℕ) (x y z : Bool) → (x ≡ true → y ≡ true → z ≡ true) → inTurn a b x ≡ true → inTurn b c y ≡ true → inTurn a c z ≡ true
+turn-trans : (a b c : ℕ) (x y z : Bool) → (x ≡ true → y ≡ true → z ≡ true)
+    → inTurn a b x ≡ true → inTurn b c y ≡ true → inTurn a c z ≡ true
 turn-trans a b c x y z h p q = go (turn-cases a b x p) (turn-cases b c y q)
   where
     go : (a < b) ⊎ ((a ≡ b) × (x ≡ true)) → (b < c) ⊎ ((b ≡ c) × (y ≡ true)) → inTurn a c z ≡ true
@@ -60,8 +61,8 @@ turn-self : (a : ℕ) (x : Bool) → x ≡ false → inTurn a a x ≡ false
 turn-self a x e = rw (le-ltb a a (le-refl a), e) (and-false (eqb a a))
 
 -- ---- the whole order, under any policy and at any time
-before-trans : (p now : ℕ) (a b c : Job) (i j k : ℕ) → jobBefore p now a i b j ≡ true → jobBefore p now b j c k ≡ true
-    → jobBefore p now a i c k ≡ true
+before-trans : (p now : ℕ) (a b c : Job) (i j k : ℕ)
+    → jobBefore p now a i b j ≡ true → jobBefore p now b j c k ≡ true → jobBefore p now a i c k ≡ true
 unfolding jobBefore
 before-trans p now a b c i j k x y =
     and-both (isPresent a) _ (and-left (isPresent a) _ x)
@@ -96,8 +97,8 @@ module _ (g : Setup) (now : ℕ) (r : Run) where
   rank-below : (i : ℕ) → i < maxTasks → present r i ≡ true → rank g now r i < countIn (present r) 0 maxTasks
   unfolding rank present jobBefore
   rank-below i l e =
-      count-lt (λ j. comesBefore g now r j i) (present r) 0 maxTasks (λ j x y h. and-left (isPresent (jobAt r j)) _ h) i (omega arith)
-      (omega arith) (self i) e
+      count-lt (λ j. comesBefore g now r j i) (present r) 0 maxTasks
+      (λ j x y h. and-left (isPresent (jobAt r j)) _ h) i (omega arith) (omega arith) (self i) e
 
   rank-distinct : (i j : ℕ) → i < j → j < maxTasks → present r i ≡ true → present r j ≡ true → rank g now r i ≡ rank g now r j → ⊥
   unfolding present
@@ -128,9 +129,8 @@ module _ (g : Setup) (now : ℕ) (r : Run) where
       and-both (present r i) _ e (lt-ltb _ _ k)
 
   -- where a demoted job runs, every normal job that is there runs too
-  pub demoted-last : (j i : ℕ) → j < maxTasks → chosen g now r i ≡ true → isDemoted (jobAt r i) ≡ true → present r j ≡ true
-      → isDemoted (jobAt r j) ≡ false
-      → chosen g now r j ≡ true
+  pub demoted-last : (j i : ℕ) → j < maxTasks → chosen g now r i ≡ true → isDemoted (jobAt r i) ≡ true
+      → present r j ≡ true → isDemoted (jobAt r j) ≡ false → chosen g now r j ≡ true
   unfolding present jobBefore
   demoted-last j i l e dem there norm =
       let first : comesBefore g now r j i ≡ true =

@@ -68,16 +68,17 @@ pub returned-free-slots : (c : Case) (later : List ℕ) → Returned c later →
 returned-free-slots c later w j h = free-slots c (accepted c later w) j h
 
 -- 2. a job that the room says was demoted is said to be met, with a finish not after its deadline
-pub returned-demoted-meets : (c : Case) (later : List ℕ) → Returned c later → demoting (c .policy) ≡ true → (j : ℕ) → Judged c j
-    → 0 < demotionIn later j
+pub returned-demoted-meets : (c : Case) (later : List ℕ) → Returned c later → demoting (c .policy) ≡ true
+    → (j : ℕ) → Judged c j → 0 < demotionIn later j
     → (verdictIn later j ≡ 1) × (timeOf (c .trace) j < finishIn later j) × (finishIn later j ≤ dueAt c j)
 returned-demoted-meets c later w cf j h d =
     rw (verdict-returned c later w j (h .0), finish-returned c later w j (h .0))
     (demoted-meets c (accepted c later w) cf j h (rw (demotion-returned c later w j (h .0)) at d))
 
 -- 3. a job that the replay under EDF says is met, the replay under a policy that demotes says is met
-pub returned-edf-met-stays-met : (c : Case) (first later : List ℕ) → Returned (under edf c) first → Returned c later
-    → demoting (c .policy) ≡ true → (j : ℕ) → Judged c j → verdictIn first j ≡ 1 → verdictIn later j ≡ 1
+pub returned-edf-met-stays-met : (c : Case) (first later : List ℕ)
+    → Returned (under edf c) first → Returned c later → demoting (c .policy) ≡ true
+    → (j : ℕ) → Judged c j → verdictIn first j ≡ 1 → verdictIn later j ≡ 1
 returned-edf-met-stays-met c first later v w cf j h e =
     verdict-returned c later w j (h .0) ∙
     edf-met-stays-met c (accepted c later w) cf j h (sym (verdict-returned (under edf c) first v j (h .0)) ∙ e)

@@ -48,34 +48,35 @@ module _ (p : ℕ) (vs : List ℕ) (n k q u : ℕ) (ws us : List ℕ) where
         values = s .valued ∙ ap (λ (a : Answer). valuesOr a vs) e ∙ sym (t .valued);
       }
 
-  pub counts-told-once : (m : ℕ) (ts room xs ys : List ℕ) → CountsTold m ts room xs (seen n p q vs ws)
-      → CountsTold m ts room ys (seen k p u vs us)
+  pub counts-told-once : (m : ℕ) (ts room xs ys : List ℕ)
+      → CountsTold m ts room xs (seen n p q vs ws) → CountsTold m ts room ys (seen k p u vs us)
       → SeenOnce n k q u ws us × (xs ≡ ys)
   counts-told-once m ts room xs ys s t =
       let d = counts-decided m ts room (s .call) (t .call) xs ys (s .kept) (t .kept) in
       (told-once (ap countedAs (d .0)) (s .told) (t .told), d .1)
 
-  pub replay-told-once : (c : Case) (room xs ys : List ℕ) → ReplayTold c room xs (seen n p q vs ws)
-      → ReplayTold c room ys (seen k p u vs us)
+  pub replay-told-once : (c : Case) (room xs ys : List ℕ)
+      → ReplayTold c room xs (seen n p q vs ws) → ReplayTold c room ys (seen k p u vs us)
       → SeenOnce n k q u ws us × (xs ≡ ys)
   replay-told-once c room xs ys s t =
       let d = replay-decided c room (s .call) (t .call) xs ys (s .kept) (t .kept) in
       (told-once (ap replayedAs (d .0)) (s .told) (t .told), d .1)
 
-  pub running-told-once : (c : Case) (slot : ℕ) → RunningTold c slot (seen n p q vs ws) → RunningTold c slot (seen k p u vs us)
+  pub running-told-once : (c : Case) (slot : ℕ)
+      → RunningTold c slot (seen n p q vs ws) → RunningTold c slot (seen k p u vs us)
       → SeenOnce n k q u ws us
-  running-told-once c slot s t = told-once (ap runningAs (running-decided c slot (s .call) (t .call) (s .kept) (t .kept))) (s .told)
-      (t .told)
+  running-told-once c slot s t =
+      told-once (ap runningAs (running-decided c slot (s .call) (t .call) (s .kept) (t .kept))) (s .told) (t .told)
 
-  pub read-told-once : (text tasks xs ys releases zs rs : List ℕ) → ReadTold text tasks xs releases zs (seen n p q vs ws)
-      → ReadTold text tasks ys releases rs (seen k p u vs us)
+  pub read-told-once : (text tasks xs ys releases zs rs : List ℕ)
+      → ReadTold text tasks xs releases zs (seen n p q vs ws) → ReadTold text tasks ys releases rs (seen k p u vs us)
       → SeenOnce n k q u ws us × (xs ≡ ys) × (zs ≡ rs)
   read-told-once text tasks xs ys releases zs rs s t =
       let d = read-decided text tasks releases (s .call) (t .call) xs ys zs rs (s .kept) (t .kept) in
       (told-once (ap takenAs (d .0)) (s .told) (t .told), d .1, d .2)
 
-  pub write-told-once : (c : Case) (bytes xs ys : List ℕ) → WriteTold c bytes xs (seen n p q vs ws)
-      → WriteTold c bytes ys (seen k p u vs us)
+  pub write-told-once : (c : Case) (bytes xs ys : List ℕ)
+      → WriteTold c bytes xs (seen n p q vs ws) → WriteTold c bytes ys (seen k p u vs us)
       → SeenOnce n k q u ws us × (xs ≡ ys)
   write-told-once c bytes xs ys s t =
       let d = write-decided c bytes (s .call) (t .call) xs ys (s .kept) (t .kept) in

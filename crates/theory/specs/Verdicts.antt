@@ -35,8 +35,8 @@ one-mark zero true = refl
 one-mark zero false = refl
 one-mark (suc f) come = refl
 
-pub all-marked : (c : Case) (e k n : ℕ) → marked 1 (tab (recordBy c e) k n) + marked 2 (tab (recordBy c e) k n) + marked 3
-    (tab (recordBy c e) k n) ≡ n
+pub all-marked : (c : Case) (e k n : ℕ)
+    → marked 1 (tab (recordBy c e) k n) + marked 2 (tab (recordBy c e) k n) + marked 3 (tab (recordBy c e) k n) ≡ n
 unfolding marked tab recordBy verdictBy
 all-marked c e k zero = refl
 all-marked c e k (suc n) =
@@ -44,7 +44,8 @@ all-marked c e k (suc n) =
     let a = timeOf (c .trace) k in
     omega (arith, all-marked c e (suc k) n, one-mark (finishBy c i a e) (leb (a + deadline (c .table) i) e))
 
-marked-more : (c : Case) (e v k n : ℕ) → marked v (tab (recordBy c e) (suc k) n) ≡ countIn (λ j. eqb (recordBy c e j .verdict) v) (suc k) n
+marked-more : (c : Case) (e v k n : ℕ)
+    → marked v (tab (recordBy c e) (suc k) n) ≡ countIn (λ j. eqb (recordBy c e j .verdict) v) (suc k) n
     → marked v (tab (recordBy c e) k (suc n)) ≡ countIn (λ j. eqb (recordBy c e j .verdict) v) k (suc n)
 unfolding marked tab
 marked-more c e v k n h = omega (arith, h, sum-head (λ j. bit (eqb (recordBy c e j .verdict) v)) k n)
