@@ -168,7 +168,8 @@ module _ (c : Case) (g : Legal c) (t k : ℕ) (w : Reached (c .trace) k (suc t))
                 fresh-record z a b = rw (z, a) b
 
                 other : (j : ℕ) → j < releaseCount (c .trace) → nameOf (c .trace) j ≡ suc i → (j ≡ p → ⊥)
-                    → timeOf (c .trace) j ≤ t → t < timeOf (c .trace) j + deadline (c .table) (taskAt c j) → Dec (j < p) → Dec (j < k) → ⊥
+                    → timeOf (c .trace) j ≤ t → t < timeOf (c .trace) j + deadline (c .table) (taskAt c j)
+                    → Dec (j < p) → Dec (j < k) → ⊥
                 other j n r x a b (yes o) v =
                     let same : nameOf (c .trace) j ≡ nameOf (c .trace) p = r ∙ sym q in
                     omega (arith, g .separate j p o h same, good-at c g j n .within, ap (λ (v : ℕ). period (c .table) (v - 1)) same)

@@ -96,8 +96,8 @@ module _ (c : Case) (g : Legal c) (j : ℕ) (h : j < releaseCount (c .trace)) (e
   abbrev a : ℕ
   a = timeOf (c .trace) j
 
-  pub stand-due : Stand (finishBy c i a e) (demotionBy c i a e) (a + deadline (c .table) i)
-      (jobAt (stateAt c (a + deadline (c .table) i)) i)
+  pub stand-due : Stand (finishBy c i a e) (demotionBy c i a e)
+      (a + deadline (c .table) i) (jobAt (stateAt c (a + deadline (c .table) i)) i)
   stand-due =
       rw (finish-same c i a e come, demotion-same c i a e come, ← (replay-state c (a + deadline (c .table) i)))
       (at-deadline (replayOf c) i a (alone-at c g j h))

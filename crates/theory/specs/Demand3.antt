@@ -45,7 +45,8 @@ any-count-finishes calm works a C F due D some att enough n h dem = story-finish
 -- ---- any course: slots in which any sets are worked
 
 -- 1 for a course. In any window of l slots, at least the count for l of them are contention-free. Nothing is asked of the scheduler.
-pub course-free-slots : (k : Course) → Lawful k → (a l : ℕ) → count (k .setup .procs) (k .setup .table) l ≤ countIn (contentionFreeIn k) a l
+pub course-free-slots : (k : Course) → Lawful k
+    → (a l : ℕ) → count (k .setup .procs) (k .setup .table) l ≤ countIn (contentionFreeIn k) a l
 course-free-slots k g a l = enough k g a l
 
 -- 2 for a course. A job of the task at i is released at a, and nothing more of the task before that job's deadline. If its free count is
