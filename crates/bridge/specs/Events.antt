@@ -11,11 +11,10 @@ use Rattle.rules.specs.Limits.{maxTasks}
 use Rattle.rules.specs.Case.{Case, releaseCount, nameOf}
 use Rattle.rules.specs.Policies.{demoting}
 use Rattle.rules.specs.Slot.{isPresent, isLast, dueOf, isMissed, workedJob, missed}
-use Rattle.rules.specs.Replay.{setupIn, releasedAt, stateAt, ranAt, finishedAt, missedAt, demotedAt, verdictOf, Record, recordOf, recordBy}
+use Rattle.rules.specs.Replay.{ranAt, finishedAt, missedAt, demotedAt, verdictOf, Record, recordOf, recordBy}
 use Rattle.rules.specs.declared.Job.{Job}
-use Rattle.bridge.specs.Steps.{lowers}
-use Rattle.bridge.specs.Jobs.{kept-opened, goes-on, absent-demotes}
-use Rattle.bridge.specs.Stands.{readyAt, openAt, finished-at, demoted-at, ran-present, next-at}
+use Rattle.bridge.specs.Jobs.{goes-on, absent-demotes}
+use Rattle.bridge.specs.Stands.{readyAt, openAt, kept-at, finished-at, demoted-at, ran-present, next-at}
 use Rattle.legal.specs.Legal.{Legal}
 use Rattle.bridge.specs.Records.{noted}
 use Rattle.bridge.specs.Turn.{lastPlace, Reached, Lives, turn-idle, turn-live}
@@ -76,11 +75,10 @@ module _ (c : Case) (t i : ℕ) (l : i < maxTasks) where
   -- of a task that is not there nothing is written
   absent : isPresent (openAt c t i) ≡ false → event fin dem missed-next ≡ false
   absent e =
-      let k = kept-opened (demoting (c .policy)) (lowers (setupIn c) t (releasedAt c t) (stateAt c t)) (readyAt c t i) in
       let r = ran-present c i l t e in
       let a : fin ≡ false = finished-at c i l t ∙ rw r in
       let b : dem ≡ false =
-      demoted-at c i l t ∙ rw (absent-demotes (readyAt c t i) (sym (k .there) ∙ e)) (and-false (demoting (c .policy))) in
+      demoted-at c i l t ∙ rw (absent-demotes (readyAt c t i) (sym (kept-at c t i .there) ∙ e)) (and-false (demoting (c .policy))) in
       let d : missed-next ≡ false = missed-here ∙ rw (r, e) in
       rw (a, b, d)
 

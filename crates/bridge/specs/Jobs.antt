@@ -11,6 +11,7 @@ use Rattle.rules.specs.Words.{pick, bit, orElse}
 use Rattle.rules.specs.Slot.{isPresent, isDemoted, leftOf, freeOf, dueOf, demotes, isDemotedNow, loweredJob, kind, isLast, workedJob}
 use Rattle.rules.specs.declared.Job.{Job}
 use Rattle.rules.specs.declared.Job.the-variants.{Idle, Normal, Demoted}
+use Rattle.lists.specs.Tests.{never-true}
 use Rattle.bridge.specs.Steps.{demotedJob, openedJob}
 
 -- ---- what a job has
@@ -53,11 +54,7 @@ falls (Demoted l d) e = absurd (false≢true e)
 
 -- so none is that is absent or demoted already
 not-falling : (j : Job) → (Falls j → ⊥) → isDemotedNow j ≡ false
-not-falling j h = go (isDemotedNow j) refl
-  where
-    go : (b : Bool) → isDemotedNow j ≡ b → isDemotedNow j ≡ false
-    go false q = q
-    go true q = absurd (h (falls j q))
+not-falling j h = never-true (isDemotedNow j) (λ q. h (falls j q))
 
 pub absent-demotes : (j : Job) → isPresent j ≡ false → isDemotedNow j ≡ false
 absent-demotes j e = not-falling j (λ f. true≢false (sym (f .there) ∙ e))

@@ -15,15 +15,15 @@ use Rattle.rules.specs.Limits.{maxTasks}
 use Rattle.rules.specs.Case.{Case, taskCount, period, execution, deadline, releaseCount, timeOf, nameOf}
 use Rattle.rules.specs.Policies.{demoting}
 use Rattle.rules.specs.Slot.{jobAt, isPresent, isDemoted, dueOf, isDemotedNow}
-use Rattle.rules.specs.Replay.{setupIn, releasedIn, releasedAt, stateFrom, stateAt, finishedAt, demotedAt, slotsBy, finishBy}
+use Rattle.rules.specs.Replay.{releasedIn, releasedAt, stateFrom, stateAt, finishedAt, demotedAt, slotsBy, finishBy}
 use Rattle.rules.specs.Replay.{demotionBy, verdictBy, verdictOf, Record, recordOf, jobRecord}
 use Rattle.rules.specs.declared.Job.{Job}
 use Rattle.rules.specs.declared.Job.the-variants.{Idle}
 use Rattle.lists.specs.Tests.{and-left, and-right, and-no}
-use Rattle.bridge.specs.Steps.{lowers, judgedJob}
-use Rattle.bridge.specs.Jobs.{Kept, kept-opened, Stand, written, idle-now, demotes-once}
+use Rattle.bridge.specs.Steps.{judgedJob}
+use Rattle.bridge.specs.Jobs.{Stand, written, idle-now, demotes-once}
 use Rattle.bridge.specs.Course.{Sole, fresh-idle}
-use Rattle.bridge.specs.Stands.{replayOf, readyAt, openAt, ready, stands, next-at, ran-present, demoted-at}
+use Rattle.bridge.specs.Stands.{replayOf, readyAt, openAt, kept-at, ready, stands, next-at, ran-present, demoted-at}
 use Rattle.legal.specs.Legal.{Legal, Good}
 
 -- ---- the set released at t
@@ -109,8 +109,7 @@ module _ (c : Case) (i : ℕ) (l : i < maxTasks) where
   -- a slot that finds no job after steps 1 and 2 leaves none
   idle-next : (t : ℕ) → readyAt c t i ≡ Idle → jobAt (stateAt c (suc t)) i ≡ Idle
   idle-next t e =
-      let k = kept-opened (demoting (c .policy)) (lowers (setupIn c) t (releasedAt c t) (stateAt c t)) (readyAt c t i) in
-      let n : isPresent (openAt c t i) ≡ false = k .there ∙ ap isPresent e in
+      let n : isPresent (openAt c t i) ≡ false = kept-at c t i .there ∙ ap isPresent e in
       next-at c i l t ∙ rw (ran-present c i l t n) (idle-now (openAt c t i) n)
 
   idle-ready : (t : ℕ) → releasedAt c t i ≡ false → jobAt (stateAt c t) i ≡ Idle → readyAt c t i ≡ Idle
@@ -214,15 +213,11 @@ module _ (c : Case) (i a : ℕ) (s : Sole (replayOf c) i a) (pos : 0 < deadline 
     unfolding finishBy demotionBy verdictBy firstIn
     next = let e : slotsBy c i a (suc (a + n)) ≡ suc n = rw (← add-suc) (slots-at (suc n) h) in rw e
 
-    kept : Kept (readyAt c (a + n) i) (openAt c (a + n) i)
-        (isDemoted (readyAt c (a + n) i) || (demoting (c .policy) && isDemotedNow (readyAt c (a + n) i)))
-    kept = kept-opened (demoting (c .policy)) (lowers (setupIn c) (a + n) (releasedAt c (a + n)) (stateAt c (a + n))) (readyAt c (a + n) i)
-
     pub absent-at : isPresent (openAt c (a + n) i) ≡ false → jobRecord c i a (suc (a + n)) ≡ jobRecord c i a (a + n)
     absent-at e = go (ready c i a s n h)
       where
         go : Stand fin dem (a + deadline (c .table) i) (readyAt c (a + n) i) → jobRecord c i a (suc (a + n)) ≡ jobRecord c i a (a + n)
-        go (inl (z, v)) = absurd (true≢false (sym (kept .there ∙ v .there) ∙ e))
+        go (inl (z, v)) = absurd (true≢false (sym (kept-at c (a + n) i .there ∙ v .there) ∙ e))
         go (inr (p, z)) =
             let q : demotedAt c (a + n) i ≡ false = demoted-at c i (s .task) (a + n) ∙ rw z (and-false (demoting (c .policy))) in
             next ∙
@@ -240,9 +235,9 @@ module _ (c : Case) (i a : ℕ) (s : Sole (replayOf c) i a) (pos : 0 < deadline 
         dem-next true j (suc d) v q = rw (demotes-once j q)
 
         go : Stand fin dem (a + deadline (c .table) i) (readyAt c (a + n) i) → LiveAt c i a (a + n)
-        go (inr (p, z)) = absurd (true≢false (sym e ∙ kept .there ∙ ap isPresent z))
+        go (inr (p, z)) = absurd (true≢false (sym e ∙ kept-at c (a + n) i .there ∙ ap isPresent z))
         go (inl (z, v)) = record {
-          due = kept .due ∙ v .its;
+          due = kept-at c (a + n) i .due ∙ v .its;
           before = now ∙ rw (z, lt-leb (a + deadline (c .table) i) (a + n) (omega arith), slots-at n (omega arith));
           behind =
               next ∙

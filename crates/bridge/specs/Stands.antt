@@ -2,21 +2,21 @@
 -- unfinished or finished and gone, by the finish and the demotion of its record (rules, Replay). The proofs of the replay rest on it.
 -- Also `state-split`: going l + k slots is going l, then k.
 use mathlib.Core.Path.{_≡_, refl, sym, ap, _∙_, fun-ext}
-use mathlib.Core.Bool.{Bool, true, false, _&&_}
+use mathlib.Core.Bool.{Bool, true, false, _&&_, _||_}
 use Prim.Native.Nat.{ℕ, zero, suc, _+_, _-_, _<_}
 use native.Mathlib.Nat.{add-zero, add-suc, zero-add, add-assoc}
 use Rattle.rules.specs.Words.{pick, firstIn}
 use Rattle.rules.specs.Limits.{maxTasks}
 use Rattle.rules.specs.Case.{Case, deadline}
 use Rattle.rules.specs.Policies.{demoting}
-use Rattle.rules.specs.Slot.{Setup, TaskSet, jobAt, isPresent, isLast, present, isDemotedNow, opened, chosen, worked, workedJob, after, ran}
-use Rattle.rules.specs.Slot.{finished, demotedNow}
+use Rattle.rules.specs.Slot.{Setup, TaskSet, jobAt, isPresent, isDemoted, isLast, present, isDemotedNow, opened, chosen, worked, workedJob}
+use Rattle.rules.specs.Slot.{after, ran, finished, demotedNow}
 use Rattle.rules.specs.Replay.{setupIn, releasedAt, stateFrom, stateAt, finishedAt, demotedAt, ranAt}
 use Rattle.rules.specs.declared.Job.{Job}
 use Rattle.rules.specs.declared.Run.{Run}
 use Rattle.lists.specs.Lists.{tab-long}
 use Rattle.bridge.specs.Steps.{Full, after-full, readied-at, opened-at, after-at, readiedJob, openedJob, lowers}
-use Rattle.bridge.specs.Jobs.{Stand}
+use Rattle.bridge.specs.Jobs.{Kept, kept-opened, Stand}
 use Rattle.bridge.specs.Course.{Course, stateIn, demotedIn, finishedIn, Sole, found-stands, left-stands}
 
 -- ---- states, slot by slot
@@ -35,6 +35,11 @@ readyAt c t i = readiedJob (setupIn c) t (releasedAt c t) (stateAt c t) i
 
 abbrev pub openAt : Case → ℕ → ℕ → Job
 openAt c t i = openedJob (demoting (c .policy)) (lowers (setupIn c) t (releasedAt c t) (stateAt c t)) (readyAt c t i)
+
+-- steps 3 and 4 keep the job, and step 3 alone demotes it
+pub kept-at : (c : Case) (t i : ℕ)
+    → Kept (readyAt c t i) (openAt c t i) (isDemoted (readyAt c t i) || (demoting (c .policy) && isDemotedNow (readyAt c t i)))
+kept-at c t i = kept-opened (demoting (c .policy)) (lowers (setupIn c) t (releasedAt c t) (stateAt c t)) (readyAt c t i)
 
 module _ (c : Case) (i : ℕ) (l : i < maxTasks) (t : ℕ) where
   pub open-at : jobAt (opened (setupIn c) t (releasedAt c t) (stateAt c t)) i ≡ openAt c t i

@@ -13,13 +13,10 @@ use borrow.Author.Tests.{eqb-true, eqb-false}
 use Rattle.rules.specs.Words.{pick}
 use Rattle.rules.specs.Limits.{maxTasks}
 use Rattle.rules.specs.Case.{Case, period, deadline, releaseCount, timeOf, nameOf}
-use Rattle.rules.specs.Policies.{demoting}
 use Rattle.rules.specs.Slot.{isPresent, dueOf}
-use Rattle.rules.specs.Replay.{setupIn, releasedAt, stateAt, finishedAt, demotedAt, demotionBy, recordOf, jobRecord, recordBy}
+use Rattle.rules.specs.Replay.{finishedAt, demotedAt, demotionBy, recordOf, jobRecord, recordBy}
 use Rattle.rules.specs.declared.Job.the-variants.{Idle}
-use Rattle.bridge.specs.Steps.{lowers}
-use Rattle.bridge.specs.Jobs.{kept-opened}
-use Rattle.bridge.specs.Stands.{readyAt, openAt}
+use Rattle.bridge.specs.Stands.{readyAt, openAt, kept-at}
 use Rattle.legal.specs.Legal.{Legal}
 use Rattle.bridge.specs.Records.{released-no, taskAt, good-at, sole, never-released, over, noted, future, past, absent-at, live-at}
 
@@ -105,8 +102,7 @@ module _ (c : Case) (g : Legal c) (t k : ℕ) (w : Reached (c .trace) k (suc t))
       pub others : (j : ℕ) → j < releaseCount (c .trace) → nameOf (c .trace) j ≡ suc i → (j ≡ p → ⊥) → recordBy c (suc t) j ≡ recordBy c t j
 
     idle-open : readyAt c t i ≡ Idle → isPresent (openAt c t i) ≡ false
-    idle-open e =
-        kept-opened (demoting (c .policy)) (lowers (setupIn c) t (releasedAt c t) (stateAt c t)) (readyAt c t i) .there ∙ ap isPresent e
+    idle-open e = kept-at c t i .there ∙ ap isPresent e
 
     pub turn-live : isPresent (openAt c t i) ≡ true → Lives
     unfolding recordBy

@@ -19,9 +19,9 @@ use Rattle.rules.specs.Slot.{Setup, TaskSet, noTask, runOf, withJob, jobAt, isP
 use Rattle.rules.specs.Slot.{demoted, readied, jobsNow, contentionFree, loweredTask, lowered, opened, chosen, workedTask, worked, after}
 use Rattle.rules.specs.Replay.{setupIn, releasedAt, stateAt, ranAt, recordBy}
 use Rattle.lists.specs.Lists.{tab-cong}
-use Rattle.bridge.specs.Steps.{Full, demotedJob, readied-at, demoted-at, readied-full, lowers}
-use Rattle.bridge.specs.Jobs.{kept-demoted, kept-opened, idle-now}
-use Rattle.bridge.specs.Stands.{state-full, state-next, readyAt, openAt, ran-present, next-at}
+use Rattle.bridge.specs.Steps.{Full, demotedJob, readied-at, demoted-at, readied-full}
+use Rattle.bridge.specs.Jobs.{kept-demoted, idle-now}
+use Rattle.bridge.specs.Stands.{state-full, state-next, readyAt, openAt, kept-at, ran-present, next-at}
 use Rattle.legal.specs.Legal.{Legal}
 use Rattle.bridge.specs.Records.{taskAt, released-no}
 use Rattle.bridge.specs.Turn.{Reached, turn-idle}
@@ -104,8 +104,7 @@ module _ (c : Case) (t : ℕ) (n : jobsNow (demoted (setupIn c) (readied (setupI
       ∙ ap (demotedJob (demoting (c .policy))) (readied-at i l (setupIn c) t (releasedAt c t) (stateAt c t) full) in
       let x : isPresent (readyAt c t i) ≡ false =
       sym (kept-demoted (demoting (c .policy)) (readyAt c t i) .there) ∙ sym (ap isPresent d) ∙ a in
-      let o : isPresent (openAt c t i) ≡ false =
-      kept-opened (demoting (c .policy)) (lowers (setupIn c) t (releasedAt c t) (stateAt c t)) (readyAt c t i) .there ∙ x in
+      let o : isPresent (openAt c t i) ≡ false = kept-at c t i .there ∙ x in
       next-at c i l t ∙ rw (ran-present c i l t o) (idle-now (openAt c t i) o)
 
 module _ (c : Case) (g : Legal c) (t : ℕ) (run : Run) (place : List ℕ) (next jobs : ℕ) (v : Walking c t run place next jobs)
@@ -150,9 +149,8 @@ module _ (c : Case) (g : Legal c) (t : ℕ) (run : Run) (place : List ℕ) (next
   -- no job is there in the slot
   absent : (i : ℕ) → i < maxTasks → isPresent (openAt c t i) ≡ false
   absent i l =
-      let k = kept-opened (demoting (c .policy)) (lowers (setupIn c) t (releasedAt c t) (stateAt c t)) (readyAt c t i) in
       let n : isPresent (readyAt c t i) ≡ false = rw (none-now i l, v .idle (r .idle) i l) in
-      k .there ∙ n
+      kept-at c t i .there ∙ n
 
   -- so none runs
   pub still-ran : tab (λ i. false) 0 maxTasks ≡ tab (ranAt c t) 0 maxTasks

@@ -1,7 +1,16 @@
--- Tests that hold together or one of which holds: laws of `&&` and `||`. Nothing of scheduling.
+-- Tests that hold together or one of which holds, and tests that must: laws of Bool, `&&` and `||`. Nothing of scheduling.
 use mathlib.Core.Path.{_≡_, refl}
 use mathlib.Core.Bool.{Bool, true, false, _&&_, _||_, false≢true}
 use mathlib.Core.Logic.{_⊎_, inl, inr}
+
+-- a test that cannot hold fails, and one that cannot fail holds
+pub never-true : (b : Bool) → (b ≡ true → ⊥) → b ≡ false
+never-true true h = absurd (h refl)
+never-true false h = refl
+
+pub never-false : (b : Bool) → (b ≡ false → ⊥) → b ≡ true
+never-false true h = refl
+never-false false h = absurd (h refl)
 
 pub and-left : (a b : Bool) → (a && b) ≡ true → a ≡ true
 and-left true b e = refl

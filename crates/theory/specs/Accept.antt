@@ -1,7 +1,7 @@
 -- The replay of an accepted case is a lawful course, and what its records say is what the course's slots say: so what Enough and Demoted
 -- prove of courses holds of the replay (rules, Replay). For Demand3 and Endings.
-use mathlib.Core.Path.{_≡_, refl, ap, sym, _∙_}
-use mathlib.Core.Bool.{Bool, true, false}
+use mathlib.Core.Path.{_≡_, ap, sym, _∙_}
+use mathlib.Core.Bool.{true}
 use Prim.Native.Nat.{ℕ, suc, _+_, _-_, _≤_, _<_}
 use native.Mathlib.Decide.{decLt}
 use native.Mathlib.Omega.{arith}
@@ -12,6 +12,7 @@ use Rattle.rules.specs.Refusals.{caseTests, caseFault, Accepted}
 use Rattle.rules.specs.Policies.{maxPolicy, demoting}
 use Rattle.rules.specs.Slot.{jobAt, isDemoted}
 use Rattle.rules.specs.Replay.{releasedAt, stateAt, slotsBy, finishBy, demotionBy}
+use Rattle.lists.specs.Tests.{never-true}
 use Rattle.bridge.specs.Course.{Course, finishIn, demotionIn}
 use Rattle.bridge.specs.Stands.{replayOf, replay-state, replay-finished, replay-demoted}
 use Rattle.legal.specs.Legal.{Legal}
@@ -30,14 +31,13 @@ alone k g i a r =
     let h = g .named a i r in
     let m = g .good i h in
     record {
-      sole = record { task = omega (arith, g .tasks-few); released = r; alone = λ u p q. free u p q (k .released u i) refl };
+      sole = record { task = omega (arith, g .tasks-few); released = r; alone = λ u p q. never-true (k .released u i) (apart u p q) };
       some = m .some;
       lasts = omega (arith, m .some, m .fits);
     }
   where
-    free : (u : ℕ) → a < u → u < a + deadline (k .setup .table) i → (b : Bool) → k .released u i ≡ b → k .released u i ≡ false
-    free u p q false e = e
-    free u p q true e = absurd (omega (arith, g .separate i a u r e p, g .good i (g .named a i r) .within))
+    apart : (u : ℕ) → a < u → u < a + deadline (k .setup .table) i → k .released u i ≡ true → ⊥
+    apart u p q e = omega (arith, g .separate i a u r e p, g .good i (g .named a i r) .within)
 
 module _ (c : Case) (g : Legal c) where
   separate : (i u v : ℕ) → releasedAt c u i ≡ true → releasedAt c v i ≡ true → u < v → u + period (c .table) i ≤ v

@@ -9,7 +9,7 @@ use native.Mathlib.Omega.{arith}
 use lib.Dec.{eqb, ltb, leb}
 use borrow.Author.Tests.{eqb-true, eq-eqb, le-leb, lt-leb, lt-ltb, le-ltb}
 use Rattle.rules.specs.Words.{bit, sum, countIn, orElse, firstIn}
-use Rattle.lists.specs.Tests.{and-left, and-right}
+use Rattle.lists.specs.Tests.{never-true, and-left, and-right}
 use Rattle.lists.specs.Sums.{bit-le, sum-mono, sum-cong, sum-add, sum-mul, sum-const}
 
 pub and-both : (a b : Bool) → a ≡ true → b ≡ true → (a && b) ≡ true
@@ -50,11 +50,7 @@ count-one p a (suc l) h = go (p (a + l)) refl (count-one p a l (λ i j x y. h i 
   where
     go : (b : Bool) → p (a + l) ≡ b → countIn p a l ≤ 1 → countIn p a l + bit b ≤ 1
     go false e ih = omega arith
-    go true e ih = omega (arith, count-none p a l (λ t x y. other t y (p t) refl))
-      where
-        other : (t : ℕ) → t < a + l → (b : Bool) → p t ≡ b → p t ≡ false
-        other t y false q = q
-        other t y true q = absurd (h t (a + l) y (omega arith) q e)
+    go true e ih = omega (arith, count-none p a l (λ t x y. never-true (p t) (λ q. h t (a + l) y (omega arith) q e)))
 
 -- a test that one passes, and no two
 pub count-only : (p : ℕ → Bool) (a l j : ℕ) → a ≤ j → j < a + l → p j ≡ true

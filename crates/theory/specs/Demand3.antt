@@ -1,7 +1,7 @@
 -- Demand 3, proved of the definitions of rules: what document 01's steps promise of every accepted case and of every job whose deadline is
 -- not after the end. The statements are about the slots and records of the replay itself; parts 1 and 2 stand first for any course.
 use mathlib.Core.Path.{_≡_, refl, ap, sym, _∙_}
-use mathlib.Core.Bool.{Bool, true, false, true≢false}
+use mathlib.Core.Bool.{Bool, true, true≢false}
 use mathlib.Core.Logic.{inl, inr}
 use Prim.Native.Nat.{ℕ, _+_, _≤_, _<_}
 use native.Mathlib.Omega.{arith}
@@ -15,6 +15,7 @@ use Rattle.rules.specs.Refusals.{Accepted}
 use Rattle.rules.specs.Policies.{edf, edfCf, demoting}
 use Rattle.rules.specs.Slot.{jobAt, isPresent, isDemoted, freeCountIn}
 use Rattle.rules.specs.Replay.{setupIn, stateAt, contentionFreeAt, finishBy, demotionBy, verdictBy, verdictOf, recordBy}
+use Rattle.lists.specs.Tests.{never-false}
 use Rattle.bridge.specs.Jobs.{Stand}
 use Rattle.bridge.specs.Course.{Course, contentionFreeIn, finishedIn, finishIn, demotionIn}
 use Rattle.bridge.specs.Stands.{replayOf}
@@ -146,11 +147,7 @@ edf-met-stays-met c ok cf j h e = go (stand-due E e-legal j (h .0) (c .end) (h .
 
     -- what is idle under EDF and there under the policy is demoted
     only-demoted : (x y : Job) → Dom x y → x ≡ Idle → isPresent y ≡ true → isDemoted y ≡ true
-    only-demoted x y d z p = said (isDemoted y) refl
-      where
-        said : (b : Bool) → isDemoted y ≡ b → isDemoted y ≡ true
-        said true q = q
-        said false q = absurd (true≢false (sym (d p q .there) ∙ ap isPresent z))
+    only-demoted x y d z p = never-false (isDemoted y) (λ q. true≢false (sym (d p q .there) ∙ ap isPresent z))
 
     go : Stand (finishBy E i a (c .end)) (demotionBy E i a (c .end)) due (jobAt (stateAt E due) i)
         → Stand (finishBy c i a (c .end)) (demotionBy c i a (c .end)) due (jobAt (stateAt c due) i)

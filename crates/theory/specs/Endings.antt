@@ -18,7 +18,7 @@ use Rattle.bridge.specs.Steps.{judgedJob, judged-at}
 use Rattle.bridge.specs.Jobs.{Stand}
 use Rattle.bridge.specs.Stands.{state-full, stands, replayOf, replay-state}
 use Rattle.legal.specs.Legal.{Legal}
-use Rattle.lists.specs.Tests.{and-left, and-right}
+use Rattle.lists.specs.Tests.{never-true, and-left, and-right}
 use Rattle.bridge.specs.Records.{released-some, taskAt, good-at, sole}
 use Rattle.theory.specs.Counting.{and-both, count-none, count-only}
 use Rattle.theory.specs.Enough.{From, judged-from, state-from}
@@ -178,11 +178,8 @@ module _ (c : Case) (g : Legal c) where
   task-opens i l = go (isPresent (jobAt (closing c) i)) refl
     where
       go : (b : Bool) → isPresent (jobAt (closing c) i) ≡ b → countIn (opens i) 0 n ≡ bit b
-      go false e = count-none (opens i) 0 n (λ j x y. shut j (omega arith) (opens i j) refl)
-        where
-          shut : (j : ℕ) → j < n → (b : Bool) → opens i j ≡ b → opens i j ≡ false
-          shut j h false q = q
-          shut j h true q = absurd (false≢true (sym e ∙ left-of i j h q .1))
+      go false e = count-none (opens i) 0 n (λ j x y.
+          never-true (opens i j) (λ q. false≢true (sym e ∙ left-of i j (omega arith) q .1)))
       go true e =
           let r = left-release c g i l e in
           let v = left-open c g (r .0) (r .1 .0) (rw (r .1 .1) e) (rw (r .1 .1) (r .1 .2)) in

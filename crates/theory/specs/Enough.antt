@@ -18,6 +18,7 @@ use Rattle.rules.specs.Counts.{availability, availabilities, count}
 use Rattle.rules.specs.Slot.{jobAt, isPresent, dueOf, isMissed, contentionFree, workedJob}
 use Rattle.bridge.specs.Steps.{judgedJob}
 use Rattle.lists.specs.Sums.{sum-split, sum-mono, sum-const, sum-swap}
+use Rattle.lists.specs.Tests.{never-true}
 use Rattle.bridge.specs.Jobs.{went-on}
 use Rattle.bridge.specs.Course.{Course, stateIn, contentionFreeIn, foundIn, openIn, course-first, next-in}
 use Rattle.theory.specs.Counting.{count-cong, count-mono, count-none, over-count, count-both}
@@ -123,13 +124,9 @@ module _ (k : Course) (g : Lawful k) where
       )
 
   no-slots : (i : ℕ) → i < maxTasks → taskCount ts ≤ i → (t : ℕ) → isPresent (foundIn k t i) ≡ false
-  no-slots i l h t = go (isPresent (foundIn k t i)) refl
-    where
-      go : (b : Bool) → isPresent (foundIn k t i) ≡ b → isPresent (foundIn k t i) ≡ false
-      go false e = e
-      go true e =
-          let f = ready-from k i l (λ u r. absurd (omega (arith, g .named u i r))) t e in
-          absurd (omega (arith, g .named (f .at) i (f .released)))
+  no-slots i l h t = never-true (isPresent (foundIn k t i)) (λ e.
+      let f = ready-from k i l (λ u r. absurd (omega (arith, g .named u i r))) t e in
+      omega (arith, g .named (f .at) i (f .released)))
 
   jobs-sum : (a l : ℕ) → sum jobsAt a l ≤ availabilities ts l
   unfolding availabilities
