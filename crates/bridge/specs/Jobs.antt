@@ -1,6 +1,6 @@
 -- One slot for one job (steps 3 to 6 of rules, Slot): what each step makes of a job, by what the job has, and how its finish and demotion
 -- so far go on. Only the first part opens a job; all else here and in theory goes by presence, kind, deadline, what is left, free count.
--- `slot-stand` is the step law, from any job; Stands makes of it how the job of a release stands at each time.
+-- `slot-stand` is the step law, from any job; Course makes of it how the job of a release stands at each time.
 use mathlib.Core.Path.{_≡_, refl, sym, ap, _∙_}
 use mathlib.Core.Bool.{Bool, true, false, _&&_, _||_, or-false, false≢true, true≢false}
 use mathlib.Core.Logic.{_⊎_, inl, inr}

@@ -1,5 +1,6 @@
--- How the record of a release (rules, Replay) goes on from time t to t + 1, and when its task is idle; and `sole`, that a task of an
--- accepted case never has two jobs at once (document 01, "The model"). Turn takes these together for all releases of a task.
+-- How the record of a release (rules, Replay) goes on from time t to t + 1, and when its task is idle; which releases of the trace the
+-- set released at a time is; and `sole`, that a task of an accepted case never has two jobs at once (document 01, "The model"). Turn
+-- takes these together for all releases of a task.
 use mathlib.Core.Path.{_≡_, refl, ap, sym, _∙_}
 use mathlib.Core.Bool.{Bool, true, false, _&&_, _||_, and-false, or-true, true≢false, false≢true}
 use mathlib.Core.Logic.{_⊎_, inl, inr}

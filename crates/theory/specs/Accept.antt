@@ -7,7 +7,6 @@ use native.Mathlib.Decide.{decLt}
 use native.Mathlib.Omega.{arith}
 use Rattle.rules.specs.declared.Fault.{Fault}
 use Rattle.rules.specs.Case.{Case, under, period, deadline, releaseCount, timeOf, nameOf}
-use Rattle.rules.specs.Counts.{freeCount}
 use Rattle.rules.specs.Refusals.{caseTests, caseFault, Accepted}
 use Rattle.rules.specs.Policies.{maxPolicy, demoting}
 use Rattle.rules.specs.Slot.{jobAt, isDemoted}
@@ -23,7 +22,7 @@ use Rattle.bridge.specs.Records.{released-some, released-named, taskAt, sole}
 use Rattle.theory.specs.Counting.{first-cong}
 use Rattle.theory.specs.Lawful.{Lawful, replay-attends}
 use Rattle.theory.specs.Demoted.{Alone, at-deadline, none-demoted}
-use Rattle.theory.specs.Enough.{enough}
+use Rattle.theory.specs.Enough.{never-over}
 
 -- ---- in a lawful course a released job is its task's only one up to its deadline
 pub alone : (k : Course) → Lawful k → (i a : ℕ) → k .released a i ≡ true → Alone k i a
@@ -104,8 +103,6 @@ module _ (c : Case) (g : Legal c) (j : ℕ) (h : j < releaseCount (c .trace)) (e
 
   -- under a policy that demotes it is not there as a demoted one
   pub none-demoted-due : demoting (c .policy) ≡ true → isDemoted (jobAt (stateAt c (a + deadline (c .table) i)) i) ≡ true → ⊥
-  unfolding freeCount
   none-demoted-due cf =
       rw (← (replay-state c (a + deadline (c .table) i)))
-      (none-demoted (replayOf c) i a (alone-at c g j h) cf e (replay-attends c e) come
-      (enough (replayOf c) (lawful c g) a (deadline (c .table) i)))
+      (none-demoted (replayOf c) i a (alone-at c g j h) cf e (replay-attends c e) come (never-over (replayOf c) (lawful c g) i a))

@@ -10,7 +10,7 @@ use Rattle.rules.specs.declared.Job.{Job}
 use Rattle.rules.specs.declared.Job.the-variants.{Idle, Normal}
 use Rattle.rules.specs.Words.{countIn}
 use Rattle.rules.specs.Case.{Case, under, deadline, releaseCount, timeOf}
-use Rattle.rules.specs.Counts.{count, freeCount}
+use Rattle.rules.specs.Counts.{count}
 use Rattle.rules.specs.Refusals.{Accepted}
 use Rattle.rules.specs.Policies.{edf, edfCf, demoting}
 use Rattle.rules.specs.Slot.{jobAt, isPresent, isDemoted, freeCountIn}
@@ -23,7 +23,7 @@ use Rattle.legal.specs.Legal.{Legal, legal}
 use Rattle.bridge.specs.Records.{taskAt, sole}
 use Rattle.theory.specs.Counting.{count-cong, first-in}
 use Rattle.theory.specs.Lawful.{Lawful, Attends, replay-free, replay-attends}
-use Rattle.theory.specs.Enough.{enough}
+use Rattle.theory.specs.Enough.{enough, never-over}
 use Rattle.theory.specs.Story.{story, Attended, story-finishes}
 use Rattle.theory.specs.Demoted.{Alone, demoted-finishes}
 use Rattle.theory.specs.Dominance.{Dom, dominated}
@@ -74,9 +74,7 @@ pub course-demoted-meets : (k : Course) (e i a : ℕ)
     → a + deadline (k .setup .table) i ≤ e
     → 0 < demotionIn k i a
     → (a < finishIn k i a) × (finishIn k i a ≤ a + deadline (k .setup .table) i)
-unfolding freeCount
-course-demoted-meets k e i a g cf att r come d =
-    course-demoted-finishes k e i a (alone k g i a r) cf att come (course-free-slots k g a (deadline (k .setup .table) i)) d
+course-demoted-meets k e i a g cf att r come d = course-demoted-finishes k e i a (alone k g i a r) cf att come (never-over k g i a) d
 
 -- ---- the replay
 
@@ -92,13 +90,12 @@ Judged c j = (j < releaseCount (c .trace)) × (dueAt c j ≤ c .end)
 -- that the policy gives it are contention-free.
 pub free-slots : (c : Case) → Accepted c → (j : ℕ) → Judged c j
     → freeCountIn (setupIn c) (taskAt c j) ≤ countIn (contentionFreeAt c) (timeOf (c .trace) j) (deadline (c .table) (taskAt c j))
-unfolding freeCount
 free-slots c ok j h =
     let a = timeOf (c .trace) j in
     let D = deadline (c .table) (taskAt c j) in
     omega (
       arith,
-      course-free-slots (replayOf c) (lawful c (legal c ok)) a D,
+      never-over (replayOf c) (lawful c (legal c ok)) (taskAt c j) a,
       count-cong (contentionFreeIn (replayOf c)) (contentionFreeAt c) a D (λ t x y. replay-free c t),
     )
 

@@ -1,5 +1,5 @@
 -- Part 1 of demand 3, for any course: a window of l slots has at least `count` (rules, Counts) contention-free ones, whatever is worked in
--- them. This is source document 001, Lemma 2; Demand3 says it of courses and of the replay.
+-- them; so no free count is too high. This is source document 001, Lemma 2; Demand3 says it of courses and of the replay.
 use mathlib.Core.Path.{_≡_, refl, ap, sym, _∙_}
 use mathlib.Core.Bool.{Bool, true, false, false≢true, true≢false}
 use mathlib.Core.Logic.{_⊎_, inl, inr}
@@ -14,8 +14,8 @@ use Rattle.rules.specs.declared.Job.the-variants.{Idle}
 use Rattle.rules.specs.Words.{pick, bit, sum, countIn}
 use Rattle.rules.specs.Limits.{maxTasks}
 use Rattle.rules.specs.Case.{taskCount, period, deadline}
-use Rattle.rules.specs.Counts.{availability, availabilities, count}
-use Rattle.rules.specs.Slot.{jobAt, isPresent, dueOf, isMissed, contentionFree, workedJob}
+use Rattle.rules.specs.Counts.{availability, availabilities, count, freeCount}
+use Rattle.rules.specs.Slot.{freeCountIn, jobAt, isPresent, dueOf, isMissed, contentionFree, workedJob}
 use Rattle.bridge.specs.Steps.{judgedJob}
 use Rattle.lists.specs.Sums.{sum-split, sum-mono, sum-const, sum-swap}
 use Rattle.lists.specs.Tests.{never-true}
@@ -152,3 +152,9 @@ module _ (k : Course) (g : Lawful k) where
       let calm : countIn (contentionFreeIn k) a l ≡ countIn (λ t. leb (jobsAt t) m) a l =
       count-cong _ _ a l (λ t x y. ap (λ (n : ℕ). leb n m) (jobs-found k t)) in
       omega (arith, busy, calm, count-both jobsAt m a l)
+
+  -- so the free count of a job is no more than the contention-free slots from its release to its deadline. Here alone it is asked which
+  -- count the setup gives
+  pub never-over : (i a : ℕ) → freeCountIn (k .setup) i ≤ countIn (contentionFreeIn k) a (deadline (k .setup .table) i)
+  unfolding freeCount
+  never-over i a = enough a (deadline (k .setup .table) i)

@@ -1,5 +1,5 @@
 -- The order of step 5 (`jobBefore`, `rank`, `chosen` of rules, Slot): any two jobs that are there have one, so that exactly min(m, N) run;
--- and in a contention-free slot all do. Cited by Course, for parts 1 and 2 of demand 3, and by Laws.
+-- and in a contention-free slot all do. Cited by Lawful, for part 2 of demand 3, and by Laws.
 use mathlib.Core.Path.{_≡_, refl, _∙_}
 use mathlib.Core.Bool.{Bool, true, false, _&&_, _||_, and-false, false≢true}
 use mathlib.Core.Logic.{_⊎_, inl, inr}
