@@ -74,7 +74,8 @@ module _ (ts : List ℕ) (e : ℕ) (rs : List ℕ) (j name t : ℕ) (some ordere
         let named-holds = sym (ap (named ts) (w .name-read)) ∙ sym (w .is-named) ∙ and-left some _ (and-left (some && ltb t e) ordered q) in
         let soon-holds = ap (λ (n : ℕ). ltb n e) (sym (w .time-read)) ∙ and-right some _ (and-left (some && ltb t e) ordered q) in
         let order-holds = sym (w .is-ordered) ∙ and-right (some && ltb t e) ordered q in
-        found ∙ rw (named-holds, soon-holds, order-holds) (alone (apart (lastBefore rs j (nameOf rs j)) (period ts (nameOf rs j - 1)) (timeOf rs j)))
+        found ∙ rw (named-holds, soon-holds, order-holds)
+        (alone (apart (lastBefore rs j (nameOf rs j)) (period ts (nameOf rs j - 1)) (timeOf rs j)))
       where
         alone : (b : Bool) → unless b 10 (suc j) ≡ first (noFault ∷ noFault ∷ noFault ∷ unless b 10 (suc j) ∷ [])
         alone true = refl

@@ -112,7 +112,7 @@ module _ (c : Case) (g : Legal c) (clock : ℕ) (more : clock < c .end) (rel : L
           let long : length rel ≡ maxTasks = rw re (tab-long (releasedIn (c .trace) (releaseCount (c .trace)) clock) 0 maxTasks) in
           absurd (false≢true (sym (List·getD-eq-default rel false {n = i} (omega arith)) ∙ e))
 
-  pub needed : (counts : List ℕ) → Counts (c .procs) (c .table) counts → Needed (c .procs) clock (c .table) counts rel
+  pub needed : (counts : List ℕ) → Counts (c .procs) (c .table) counts → Needed (setupIn c) clock counts rel
   needed counts q = record {
     some = g .procs-some;
     early = omega (arith, g .end-small);

@@ -12,6 +12,7 @@ ghost use Rattle.rules.specs.Replay.{fresh};
 ghost use Rattle.counts.specs.Needs.{Counts};
 ghost use Rattle.bridge.specs.Turn.{Reached};
 ghost use Rattle.engine.specs.Walks.{Orderly, places, releases, Rests, roomAt, LastRan};
+use rules::MAX_TASKS;
 use rules::RELEASE_WIDTH;
 use rules::Replayed;
 use rules::Run;
@@ -24,8 +25,8 @@ fn take_releases(
     trace: &[u32],
     from: usize,
     clock: u32,
-    place: &mut [usize; 32],
-    released: &mut [bool; 32],
+    place: &mut [usize; MAX_TASKS],
+    released: &mut [bool; MAX_TASKS],
 ) -> usize
     requires { ⌜ Orderly (now trace) ⌝ }
     requires { ⌜ Reached (now trace) from clock ⌝ }
@@ -33,7 +34,7 @@ fn take_releases(
     ensures { λ next. ⌜ Reached (now (trace .entry)) next (suc clock) × (now (place .exit) ≡ places (now (trace .entry)) next)
         × (now (released .exit) ≡ releases (now (trace .entry)) (releaseCount (now (trace .entry))) clock) ⌝ }
 {
-    *released = [false; 32];
+    *released = [false; MAX_TASKS];
     let n = trace.len() / RELEASE_WIDTH;
     let mut k = from;
     while k < n {
@@ -72,13 +73,13 @@ fn walk(
     procs: u32,
     policy: u32,
     table: &[u32],
-    counts: [u32; 32],
+    counts: [u32; MAX_TASKS],
     end: u32,
     trace: &[u32],
     until: u32,
     noting: bool,
     out: &mut [u32],
-) -> [bool; 32]
+) -> [bool; MAX_TASKS]
     requires { ⌜ Accepted (caseOf procs policy (now table) end (now trace)) ⌝ }
     requires { ⌜ Counts procs (now table) counts ⌝ }
     requires { ⌜ first ≡ fresh ⌝ }
@@ -89,20 +90,20 @@ fn walk(
         ≡ roomAt (caseOf procs policy (now (table .entry)) end (now (trace .entry))) until (now (out .entry))) ⌝ }
 {
     let mut run = first;
-    let mut place: [usize; 32] = [0; 32];
+    let mut place: [usize; MAX_TASKS] = [0; MAX_TASKS];
     let mut next: usize = 0;
     let mut jobs: usize = 0;
-    let mut ran = [false; 32];
+    let mut ran = [false; MAX_TASKS];
     let mut clock: u32 = 0;
     while clock < until {
         if rests(trace, next, jobs, clock) {
-            ran = [false; 32];
+            ran = [false; MAX_TASKS];
         } else {
-            let mut released = [false; 32];
-            let mut missed = [false; 32];
-            let mut demoted = [false; 32];
-            let mut finished = [false; 32];
-            let mut missed_next = [false; 32];
+            let mut released = [false; MAX_TASKS];
+            let mut missed = [false; MAX_TASKS];
+            let mut demoted = [false; MAX_TASKS];
+            let mut finished = [false; MAX_TASKS];
+            let mut missed_next = [false; MAX_TASKS];
             next = take_releases(trace, next, clock, &mut place, &mut released);
             run = slot::step(
                 run,
@@ -133,7 +134,7 @@ fn replay_run(
     procs: u32,
     policy: u32,
     table: &[u32],
-    counts: [u32; 32],
+    counts: [u32; MAX_TASKS],
     end: u32,
     trace: &[u32],
     out: &mut [u32],
@@ -191,13 +192,13 @@ pub fn replay(
 // ---- the running set
 
 // A set as a number: bit i for the task at i.
-fn set_number(set: [bool; 32]) -> u32
+fn set_number(set: [bool; MAX_TASKS]) -> u32
     ensures { λ r. ⌜ r ≡ setNumber (λ i. getD set i false) ⌝ }
 {
     let mut number: u64 = 0;
     let mut power: u64 = 1;
     let mut i: usize = 0;
-    while i < 32 {
+    while i < MAX_TASKS {
         if set[i] {
             number += power;
         }

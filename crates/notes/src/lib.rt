@@ -12,6 +12,7 @@ ghost use Rattle.rules.specs.Replay.{numbers};
 ghost use Rattle.bridge.specs.Events.{event, entry};
 ghost use Rattle.bridge.specs.Notes.{put3, noteTo};
 ghost use Rattle.notes.specs.Noted.{Roomy, Uneventful, openRecord};
+use rules::MAX_TASKS;
 use rules::RECORD_WIDTH;
 
 // ---- what happens to a job
@@ -67,10 +68,10 @@ fn note_task(out: &mut [u32], p: usize, finished: bool, demoted: bool, missed: b
 // Writes what happened to each job in a slot.
 fn note_all(
     out: &mut [u32],
-    place: &[usize; 32],
-    finished: &[bool; 32],
-    demoted: &[bool; 32],
-    missed: &[bool; 32],
+    place: &[usize; MAX_TASKS],
+    finished: &[bool; MAX_TASKS],
+    demoted: &[bool; MAX_TASKS],
+    missed: &[bool; MAX_TASKS],
     clock: u32,
 )
     requires { ⌜ Roomy (now place) (now finished) (now demoted) (now missed) (length (now out)) ⌝ }
@@ -79,7 +80,7 @@ fn note_all(
         (now (missed .entry)) maxTasks (now (out .entry)) ⌝ }
 {
     let mut i: usize = 0;
-    while i < 32 {
+    while i < MAX_TASKS {
         let fin = finished[i];
         let dem = demoted[i];
         let mis = missed[i];
@@ -92,12 +93,16 @@ fn note_all(
 }
 
 // Whether anything happened to a job in a slot. All 32 are looked at whatever comes first: such a loop is made into a few steps.
-fn any_event(finished: &[bool; 32], demoted: &[bool; 32], missed: &[bool; 32]) -> bool
+fn any_event(
+    finished: &[bool; MAX_TASKS],
+    demoted: &[bool; MAX_TASKS],
+    missed: &[bool; MAX_TASKS],
+) -> bool
     ensures { λ r. ⌜ (r ≡ false → Uneventful (now (finished .entry)) (now (demoted .entry)) (now (missed .entry)) maxTasks) ⌝ }
 {
     let mut any = false;
     let mut i: usize = 0;
-    while i < 32 {
+    while i < MAX_TASKS {
         if is_event(finished[i], demoted[i], missed[i]) {
             any = true;
         }
@@ -109,10 +114,10 @@ fn any_event(finished: &[bool; 32], demoted: &[bool; 32], missed: &[bool; 32]) -
 // Writes what a slot changes in the records; in most slots that is nothing.
 pub fn note_slot(
     out: &mut [u32],
-    place: &[usize; 32],
-    finished: &[bool; 32],
-    demoted: &[bool; 32],
-    missed: &[bool; 32],
+    place: &[usize; MAX_TASKS],
+    finished: &[bool; MAX_TASKS],
+    demoted: &[bool; MAX_TASKS],
+    missed: &[bool; MAX_TASKS],
     clock: u32,
 )
     requires { ⌜ Roomy (now place) (now finished) (now demoted) (now missed) (length (now out)) ⌝ }

@@ -9,9 +9,10 @@ use native.Mathlib.Omega.{arith}
 use lib.ListN.{length, getD, set, take, drop, length-append, length-drop, List·getD-append}
 use lib.Seq.{getD-set-same, length-take-le, getD-take}
 use Rattle.rules.specs.Words.{pick, bit, sum, countIn, mapAt}
-use Rattle.rules.specs.Counts.{freeCount}
+use Rattle.rules.specs.Limits.{maxTasks}
 use Rattle.rules.specs.Policies.{demoting}
-use Rattle.rules.specs.Slot.{Setup, TaskSet, noTask, runOf, withJob, jobAt, isPresent, present, eachTask, isMissed, judgedTask, judged}
+use Rattle.rules.specs.Slot.{Setup, TaskSet, freeCountIn, noTask, runOf, withJob, jobAt, isPresent, present, eachTask, isMissed, judgedTask}
+use Rattle.rules.specs.Slot.{judged}
 use Rattle.rules.specs.Slot.{releasedTask, joinedTask, joined, readied, isDemotedNow, demotedTask, demoted, jobsNow, missed, demotedNow}
 use Rattle.rules.specs.declared.Job.{Job}
 use Rattle.rules.specs.declared.Job.the-variants.{Idle}
@@ -24,7 +25,7 @@ use Rattle.bridge.specs.Steps.{Full}
 use Rattle.bridge.specs.Jobs.{idle-now}
 use Rattle.jobs.specs.Tasks.{readiedTask, demotedIf}
 use Rattle.queue.proofs.Marks.{nobody, Marking, mark-none, mark-store, mark-keep, mark-all}
-use Rattle.slot.specs.Stepped.{settled, Settles}
+use Rattle.slot.specs.Stepped.{settledRun, Settles}
 
 -- step 3 for one task under a policy
 abbrev demotedUnder : Bool → Task → Task
@@ -46,13 +47,13 @@ module _ (g : Setup) (now : ℕ) (s : TaskSet) (r : Run) where
   demote true x = refl
   demote false x = sym (ap runOf (keep-all (x .tasks)))
 
-  pub settled-run : settled g now s r ≡ eachTask (settledTask g now s) r
+  pub settled-run : settledRun g now s r ≡ eachTask (settledTask g now s) r
   unfolding demoted
   settled-run =
       demote (demoting (g .policy)) (readied g now s r) ∙ ap (eachTask (λ i t. demotedUnder (demoting (g .policy)) t)) ready ∙
       ap runOf (fuse (λ i t. demotedUnder (demoting (g .policy)) t) (readyTask g now s) (r .tasks))
 
-  ready-at : (i : ℕ) → i < 32 → Full r → getD (readied g now s r .tasks) i noTask ≡ readyTask g now s i (getD (r .tasks) i noTask)
+  ready-at : (i : ℕ) → i < maxTasks → Full r → getD (readied g now s r .tasks) i noTask ≡ readyTask g now s i (getD (r .tasks) i noTask)
   ready-at i l h = ap (λ (x : Run). getD (x .tasks) i noTask) ready ∙ mapAt-at (readyTask g now s) (r .tasks) i noTask (omega arith)
 
 -- what the code makes of a task in steps 1 and 2 is what the definitions say
@@ -60,7 +61,7 @@ number-kept : (b : Bool) (t : Task) → pick b (withJob t Idle) t .number ≡ t 
 number-kept true t = refl
 number-kept false t = refl
 
-ready-as : (g : Setup) (now : ℕ) (i f : ℕ) (b : Bool) (t : Task) → (b ≡ true → f ≡ freeCount (g .procs) (g .table) i)
+ready-as : (g : Setup) (now : ℕ) (i f : ℕ) (b : Bool) (t : Task) → (b ≡ true → f ≡ freeCountIn g i)
     → readiedTask (g .table) i f b now t ≡ pick b (releasedTask g now i (judgedTask now t)) (judgedTask now t)
 ready-as g now i f true t h = rw (h refl, number-kept (isMissed now (t .job)) t)
 ready-as g now i f false t h = refl
@@ -85,7 +86,7 @@ filling-past n ys xs s i d l w =
     getD-take (i + 1) ys i d (omega arith)
 
 -- a run that is being filled has its 32 tasks
-long : {ys xs ts : List Task} {i : ℕ} → Filling 32 ys xs ts i → length ts ≡ 32
+long : {ys xs ts : List Task} {i : ℕ} → Filling maxTasks ys xs ts i → length ts ≡ maxTasks
 long {ys} {xs} {ts} {i} w =
     ap length (w .so-far) ∙ length-append (take i ys) (drop i xs)
     ∙ omega (arith, w .within, w .long, length-take-le i ys (omega (arith, w .within, w .long′)), length-drop i xs)
@@ -98,17 +99,17 @@ count-more p i n m b e h q = rw (add-one i, zero-add i, q) (omega arith)
 -- ---- the first pass as it goes on: the tasks, the missed, the demoted and the jobs, all up to i
 pub record Settling (g : Setup) (now : ℕ) (s : TaskSet) (r : Run) (ts : List Task) (ms ds ps : List Bool) (n i : ℕ) : Type 0 where
   pub full : Full r
-  pub tasks : Filling 32 (mapAt (settledTask g now s) (r .tasks)) (r .tasks) ts i
+  pub tasks : Filling maxTasks (mapAt (settledTask g now s) (r .tasks)) (r .tasks) ts i
   pub removed : Marking (missed g now s r) ms i
   pub demotes : Marking (demotedNow g now s r) ds i
-  pub there : Marking (present (settled g now s r)) ps i
+  pub there : Marking (present (settledRun g now s r)) ps i
   pub few : n ≤ i
-  pub counts : n ≡ countIn (present (settled g now s r)) 0 i
+  pub counts : n ≡ countIn (present (settledRun g now s r)) 0 i
 
--- the same where the task at i is settled and not yet counted
+-- the same where the task at i is settledRun and not yet counted
 pub record Changed (g : Setup) (now : ℕ) (s : TaskSet) (r : Run) (ts : List Task) (ms ds : List Bool) (i : ℕ) : Type 0 where
   pub full : Full r
-  pub tasks : Filling 32 (mapAt (settledTask g now s) (r .tasks)) (r .tasks) ts (i + 1)
+  pub tasks : Filling maxTasks (mapAt (settledTask g now s) (r .tasks)) (r .tasks) ts (i + 1)
   pub removed : Marking (missed g now s r) ms (i + 1)
   pub demotes : Marking (demotedNow g now s r) ds (i + 1)
 
@@ -117,7 +118,7 @@ unfolding sum
 settle-none g now s r h =
     record {
       full = h;
-      tasks = each-none (settledTask g now s) 32 (r .tasks) h;
+      tasks = each-none (settledTask g now s) maxTasks (r .tasks) h;
       removed = mark-none _;
       demotes = mark-none _;
       there =
@@ -130,10 +131,10 @@ bit-few : (n m i : ℕ) (b : Bool) → n ≤ i → m ≡ n + bit b → m ≤ i +
 bit-few n m i true l e = omega arith
 bit-few n m i false l e = omega arith
 
-module _ (g : Setup) (now : ℕ) (s : TaskSet) (r : Run) (ts : List Task) (ms ds ps : List Bool) (n i : ℕ) (l : i < 32)
+module _ (g : Setup) (now : ℕ) (s : TaskSet) (r : Run) (ts : List Task) (ms ds ps : List Bool) (n i : ℕ) (l : i < maxTasks)
     (w : Settling g now s r ts ms ds ps n i) where
   was : getD ts i noTask ≡ getD (r .tasks) i noTask
-  was = filling-at 32 (mapAt (settledTask g now s) (r .tasks)) (r .tasks) ts i noTask l (w .tasks)
+  was = filling-at maxTasks (mapAt (settledTask g now s) (r .tasks)) (r .tasks) ts i noTask l (w .tasks)
 
   removed-as : missed g now s r i ≡ isMissed now (getD ts i noTask .job)
   unfolding missed
@@ -144,7 +145,7 @@ module _ (g : Setup) (now : ℕ) (s : TaskSet) (r : Run) (ts : List Task) (ms ds
   demotes-as = ap (λ (t : Task). demoting (g .policy) && isDemotedNow (t .job))
       (ready-at g now s r i l (w .full) ∙ ap (readyTask g now s i) (sym was))
 
-  stored : (f : ℕ) (u v : Task) (a b : Bool) → (s i ≡ true → f ≡ freeCount (g .procs) (g .table) i)
+  stored : (f : ℕ) (u v : Task) (a b : Bool) → (s i ≡ true → f ≡ freeCountIn g i)
       → u ≡ readiedTask (g .table) i f (s i) now (getD ts i noTask)
       → b ≡ (demoting (g .policy) && isDemotedNow (u .job)) → v ≡ demotedIf b u → a ≡ isMissed now (getD ts i noTask .job)
       → Changed g now s r (set ts i v) (set ms i a) (set ds i b) i
@@ -153,7 +154,7 @@ module _ (g : Setup) (now : ℕ) (s : TaskSet) (r : Run) (ts : List Task) (ms ds
       let o : v ≡ settledTask g now s i (getD ts i noTask) = z ∙ rw (q, e) in
       record {
         full = w .full;
-        tasks = each-store (settledTask g now s) 32 (r .tasks) ts i noTask v l (w .tasks) o;
+        tasks = each-store (settledTask g now s) maxTasks (r .tasks) ts i noTask v l (w .tasks) o;
         removed = mark-store (missed g now s r) ms i a l (w .removed) (x ∙ sym removed-as);
         demotes = mark-store (demotedNow g now s r) ds i b l (w .demotes) (q ∙ rw e (sym demotes-as));
       }
@@ -167,7 +168,7 @@ module _ (g : Setup) (now : ℕ) (s : TaskSet) (r : Run) (ts : List Task) (ms ds
       let k = ready-same g now s i (getD ts i noTask) (h .0) (h .1) in
       record {
         full = w .full;
-        tasks = each-keep (settledTask g now s) 32 (r .tasks) ts i noTask l (w .tasks)
+        tasks = each-keep (settledTask g now s) maxTasks (r .tasks) ts i noTask l (w .tasks)
             (ap (demotedUnder (demoting (g .policy))) k ∙ demoted-same (demoting (g .policy)) (getD ts i noTask) (f .1));
         removed = mark-keep (missed g now s r) ms i l (w .removed) (removed-as ∙ h .1);
         demotes = mark-keep (demotedNow g now s r) ds i l (w .demotes)
@@ -175,10 +176,10 @@ module _ (g : Setup) (now : ℕ) (s : TaskSet) (r : Run) (ts : List Task) (ms ds
       }
 
   here : {ts' : List Task} {ms' ds' : List Bool} → Changed g now s r ts' ms' ds' i
-      → isPresent (jobAt (settled g now s r) i) ≡ isPresent (getD ts' i noTask .job)
+      → isPresent (jobAt (settledRun g now s r) i) ≡ isPresent (getD ts' i noTask .job)
   here {ts'} v =
       ap (λ (x : Run). isPresent (jobAt x i)) (settled-run g now s r) ∙
-      ap (λ (x : Task). isPresent (x .job)) (sym (filling-past 32 _ _ ts' i noTask l (v .tasks)))
+      ap (λ (x : Task). isPresent (x .job)) (sym (filling-past maxTasks _ _ ts' i noTask l (v .tasks)))
 
   -- it is counted
   counted : (ts' : List Task) (ms' ds' : List Bool) (d : Bool) (m : ℕ) → Changed g now s r ts' ms' ds' i
@@ -192,13 +193,13 @@ module _ (g : Setup) (now : ℕ) (s : TaskSet) (r : Run) (ts : List Task) (ms ds
         tasks = v .tasks;
         removed = v .removed;
         demotes = v .demotes;
-        there = mark-store (present (settled g now s r)) ps i d l (w .there) (p ∙ sym t);
+        there = mark-store (present (settledRun g now s r)) ps i d l (w .there) (p ∙ sym t);
         few = bit-few n m i (isPresent (getD ts' i noTask .job)) (w .few) k;
-        counts = count-more (present (settled g now s r)) i n m (isPresent (getD ts' i noTask .job)) (w .counts) k t;
+        counts = count-more (present (settledRun g now s r)) i n m (isPresent (getD ts' i noTask .job)) (w .counts) k t;
       }
 
   -- it is changed, written and counted
-  pub settle-store : (f : ℕ) (u v : Task) (a b d : Bool) (m : ℕ) → (s i ≡ true → f ≡ freeCount (g .procs) (g .table) i)
+  pub settle-store : (f : ℕ) (u v : Task) (a b d : Bool) (m : ℕ) → (s i ≡ true → f ≡ freeCountIn g i)
       → u ≡ readiedTask (g .table) i f (s i) now (getD ts i noTask)
       → b ≡ (demoting (g .policy) && isDemotedNow (u .job)) → v ≡ demotedIf b u → a ≡ isMissed now (getD ts i noTask .job)
       → d ≡ isPresent (v .job) → m ≡ n + bit (isPresent (v .job))
@@ -229,25 +230,25 @@ module _ (g : Setup) (now : ℕ) (s : TaskSet) (r : Run) (ts : List Task) (ms ds
         tasks = v .tasks;
         removed = v .removed;
         demotes = v .demotes;
-        there = mark-keep (present (settled g now s r)) ps i l (w .there) t;
+        there = mark-keep (present (settledRun g now s r)) ps i l (w .there) t;
         few = omega (arith, w .few);
-        counts = count-more (present (settled g now s r)) i n n false (w .counts) (omega arith) t;
+        counts = count-more (present (settledRun g now s r)) i n n false (w .counts) (omega arith) t;
       }
     where
       idle-kept : (cf b : Bool) (j : Job) → b ≡ false → isPresent j ≡ false → (b || isMissed now j || (cf && isDemotedNow j)) ≡ false
       idle-kept cf b j n p = rw (n, idle-now j p, and-false cf)
 
-pub settle-all : (g : Setup) (now : ℕ) (s : TaskSet) (r a : Run) (ms ds ps : List Bool) (n i : ℕ) → 32 ≤ i
+pub settle-all : (g : Setup) (now : ℕ) (s : TaskSet) (r a : Run) (ms ds ps : List Bool) (n i : ℕ) → maxTasks ≤ i
     → Settling g now s r (a .tasks) ms ds ps n i
     → Settles g now s r a n ms ds ps
 unfolding jobsNow
 settle-all g now s r a ms ds ps n i l w =
-    let e : i ≡ 32 = omega (arith, w .tasks .within) in
-    let x : a ≡ settled g now s r = ap runOf (filling-all 32 _ _ _ i l (w .tasks)) ∙ sym (settled-run g now s r) in
+    let e : i ≡ maxTasks = omega (arith, w .tasks .within) in
+    let x : a ≡ settledRun g now s r = ap runOf (filling-all maxTasks _ _ _ i l (w .tasks)) ∙ sym (settled-run g now s r) in
     record {
       run = x;
       jobs = rw x (rw e at (w .counts));
       missed = mark-all _ ms i l (w .removed);
       demoted = mark-all _ ds i l (w .demotes);
-      present = rw x (mark-all (present (settled g now s r)) ps i l (w .there));
+      present = rw x (mark-all (present (settledRun g now s r)) ps i l (w .there));
     }

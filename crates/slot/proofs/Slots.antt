@@ -8,6 +8,7 @@ use lib.Dec.{leb, ltb}
 use lib.ListN.{getD}
 use borrow.Author.Tests.{ltb-true, ltb-false}
 use Rattle.rules.specs.Words.{pick, bit, tab}
+use Rattle.rules.specs.Limits.{maxTasks}
 use Rattle.rules.specs.Policies.{demoting}
 use Rattle.rules.specs.Slot.{Setup, setupOf, TaskSet, noTask, runOf, withJob, jobAt, isPresent, leftOf, dueOf, kind, present, eachTask}
 use Rattle.rules.specs.Slot.{jobsNow, contentionFree, loweredTask, lowered, opened, jobBefore, comesBefore, rank, chosen, lastUnit}
@@ -24,7 +25,7 @@ use Rattle.bridge.specs.Steps.{Full, demoted-full, lowered-full, readied-full}
 use Rattle.jobs.specs.Tasks.{loweredIf, workedIf, workedOn}
 use Rattle.queue.specs.Queues.{Chosen}
 use Rattle.queue.proofs.Choice.{chosen-all}
-use Rattle.slot.specs.Stepped.{members, Among, settled, Settles, Works, Worked, Stepped}
+use Rattle.slot.specs.Stepped.{members, Among, settledRun, Settles, Works, Worked, Stepped}
 use Rattle.slot.proofs.Working.{Left}
 
 -- ---- step 4 keeps what the order and the last unit look at
@@ -61,20 +62,20 @@ module _ (g : Setup) (now : ℕ) (d : Run) (h : Full d) where
   unfolding lowered
   lowers = lower (lowersIn g d)
 
-  lowers-at : (i : ℕ) → i < 32 → jobAt (lowered g d) i ≡ loweredIf (lowersIn g d) (jobAt d i)
+  lowers-at : (i : ℕ) → i < maxTasks → jobAt (lowered g d) i ≡ loweredIf (lowersIn g d) (jobAt d i)
   lowers-at i l =
       ap (λ (x : Run). jobAt x i) lowers ∙ ap (λ (t : Task). t .job)
       (mapAt-at (λ i t. lowersTask (lowersIn g d) t) (d .tasks) i noTask (omega arith))
 
-  kept : (i : ℕ) → i < 32 → Alike (g .policy) now (jobAt d i) (jobAt (lowered g d) i)
+  kept : (i : ℕ) → i < maxTasks → Alike (g .policy) now (jobAt d i) (jobAt (lowered g d) i)
   kept i l = rw (lowers-at i l) (alike (g .policy) now (lowersIn g d) (jobAt d i))
 
   -- so the same jobs are chosen
-  same-chosen : (i : ℕ) → i < 32 → chosen g now (lowered g d) i ≡ chosen g now d i
+  same-chosen : (i : ℕ) → i < maxTasks → chosen g now (lowered g d) i ≡ chosen g now d i
   unfolding chosen present rank
   same-chosen i l =
       ap₂ (λ a n. a && ltb n (g .procs)) (kept i l .there)
-      (sum-cong (λ j. bit (comesBefore g now (lowered g d) j i)) (λ j. bit (comesBefore g now d j i)) 0 32
+      (sum-cong (λ j. bit (comesBefore g now (lowered g d) j i)) (λ j. bit (comesBefore g now d j i)) 0 maxTasks
       (λ j u v. ap bit (same-before (g .policy) now (jobAt d j) (jobAt d i) _ _ j i (kept j (omega arith)) (kept i l))))
 
   with-pick : (b : Bool) (t : Task) → pick b (workedTask t) t ≡ withJob t (workedIf b (t .job))
@@ -99,13 +100,13 @@ module _ (g : Setup) (now : ℕ) (d : Run) (h : Full d) where
       let v = rw z at w in
       record {
         run = v .run ∙ sym (works runs);
-        finished = v .finished ∙ tab-cong _ _ 0 32 (λ i u l. ap (λ k. runs i && lastUnit k) (sym (kept i (omega arith) .left)));
+        finished = v .finished ∙ tab-cong _ _ 0 maxTasks (λ i u l. ap (λ k. runs i && lastUnit k) (sym (kept i (omega arith) .left)));
         missed-next = v .next;
       }
 
 -- ---- the slot, from what its parts answer
 -- a set is told by its members below 32
-worked-same : (s u : TaskSet) (r : Run) → Full r → ((i : ℕ) → i < 32 → s i ≡ u i) → worked s r ≡ worked u r
+worked-same : (s u : TaskSet) (r : Run) → Full r → ((i : ℕ) → i < maxTasks → s i ≡ u i) → worked s r ≡ worked u r
 unfolding worked
 worked-same s u r f h =
     ap runOf
@@ -122,15 +123,16 @@ module _ (g : Setup) (now : ℕ) (s : TaskSet) (r d : Run) (full : Full r) (n : 
       let f = demoted-full g _ (readied-full g now s r full) in
       let x = rw (p .run) at (c (g .table)) in
       let v = rw (p .run) at (w (g .table)) in
-      let o : (i : ℕ) → i < 32 → members rs i ≡ chosen g now (lowered g (settled g now s r)) i =
-      λ i l. rw x (tab-at (chosen g now (settled g now s r)) 32 i false l) ∙ sym (same-chosen g now _ f i l) in
+      let o : (i : ℕ) → i < maxTasks → members rs i ≡ chosen g now (lowered g (settledRun g now s r)) i =
+      λ i l. rw x (tab-at (chosen g now (settledRun g now s r)) maxTasks i false l) ∙ sym (same-chosen g now _ f i l) in
       record {
         run = v .run ∙ worked-same _ _ _ (lowered-full g _ f) o;
         jobs = p .jobs ∙ ap jobsNow (p .run);
         missed = p .missed;
         demoted = p .demoted;
-        ran = x ∙ tab-cong _ _ 0 32 (λ i u l. sym (same-chosen g now _ f i (omega arith)));
-        finished = v .finished ∙ tab-cong _ _ 0 32 (λ i u l. ap (λ b. b && lastUnit (leftOf (jobAt (lowered g (settled g now s r)) i)))
+        ran = x ∙ tab-cong _ _ 0 maxTasks (λ i u l. sym (same-chosen g now _ f i (omega arith)));
+        finished = v .finished ∙ tab-cong _ _ 0 maxTasks
+            (λ i u l. ap (λ b. b && lastUnit (leftOf (jobAt (lowered g (settledRun g now s r)) i)))
             (o i (omega arith)));
         missed-next = v .missed-next;
       }
@@ -140,11 +142,11 @@ pub waits : (procs n : ℕ) (d : Run) (b : Bool) → n ≡ jobsNow d → b ≡ l
 waits procs n d b e q t = omega (arith, e, ltb-true procs n (sym q ∙ t))
 
 pub unchosen : (procs policy now n : ℕ) (d : Run) (ps : List Bool) (b : Bool) → n ≡ jobsNow d → b ≡ ltb procs n → b ≡ false
-    → ps ≡ tab (present d) 0 32 → Chosen procs policy now d ps
+    → ps ≡ tab (present d) 0 maxTasks → Chosen procs policy now d ps
 unchosen procs policy now n d ps b e q f h = chosen-all procs policy now d ps (omega (arith, e, ltb-false procs n (sym q ∙ f))) h
 
 -- only jobs that are there are chosen
 pub among : (procs policy now : ℕ) (d : Run) (rs : List Bool) → Chosen procs policy now d rs → Among (members rs) d
 unfolding chosen
 among procs policy now d rs c i l e =
-    and-left (present d i) _ (sym (tab-at (chosen (setupOf procs policy []) now d) 32 i false l) ∙ rw (c []) at e)
+    and-left (present d i) _ (sym (tab-at (chosen (setupOf procs policy []) now d) maxTasks i false l) ∙ rw (c []) at e)

@@ -8,6 +8,7 @@ use native.Mathlib.Numerals.{add-one}
 use native.Mathlib.Omega.{arith}
 use lib.ListN.{getD, set}
 use Rattle.rules.specs.Words.{tab, mapAt}
+use Rattle.rules.specs.Limits.{maxTasks}
 use Rattle.rules.specs.Slot.{TaskSet, noTask, runOf, jobAt, isPresent, leftOf, isMissed, eachTask, lastUnit}
 use Rattle.rules.specs.declared.Job.the-variants.{Idle}
 use Rattle.rules.specs.declared.Task.{Task}
@@ -33,22 +34,22 @@ module _ (lowers : Bool) (now : ℕ) (runs : TaskSet) where
 
   pub record Working (r : Run) (ts : List Task) (fs ls : List Bool) (i : ℕ) : Type 0 where
     pub full : Full r
-    pub tasks : Filling 32 (mapAt workTask (r .tasks)) (r .tasks) ts i
+    pub tasks : Filling maxTasks (mapAt workTask (r .tasks)) (r .tasks) ts i
     pub finished : Marking (finishes r) fs i
     pub next : Marking (missesNext r) ls i
 
   pub work-none : (r : Run) → Full r → Working r (r .tasks) nobody nobody 0
   work-none r h = record {
     full = h;
-    tasks = each-none workTask 32 (r .tasks) h;
+    tasks = each-none workTask maxTasks (r .tasks) h;
     finished = mark-none (finishes r);
     next =
         mark-none (missesNext r);
   }
 
-  module _ (r : Run) (ts : List Task) (fs ls : List Bool) (i : ℕ) (l : i < 32) (w : Working r ts fs ls i) where
+  module _ (r : Run) (ts : List Task) (fs ls : List Bool) (i : ℕ) (l : i < maxTasks) (w : Working r ts fs ls i) where
     was : getD ts i noTask ≡ getD (r .tasks) i noTask
-    was = filling-at 32 (mapAt workTask (r .tasks)) (r .tasks) ts i noTask l (w .tasks)
+    was = filling-at maxTasks (mapAt workTask (r .tasks)) (r .tasks) ts i noTask l (w .tasks)
 
     finishes-as : finishes r i ≡ (runs i && lastUnit (leftOf (getD ts i noTask .job)))
     finishes-as = ap (λ (t : Task). runs i && lastUnit (leftOf (t .job))) (sym was)
@@ -61,7 +62,7 @@ module _ (lowers : Bool) (now : ℕ) (runs : TaskSet) where
         → d ≡ isMissed (now + 1) (v .job) → Working r (set ts i v) (set fs i b) (set ls i d) (i + 1)
     work-store v b d o q y = record {
       full = w .full;
-      tasks = each-store workTask 32 (r .tasks) ts i noTask v l (w .tasks) o;
+      tasks = each-store workTask maxTasks (r .tasks) ts i noTask v l (w .tasks) o;
       finished = mark-store (finishes r) fs i b l (w .finished) (q ∙ sym finishes-as);
       next = mark-store (missesNext r) ls i d l (w .next) (y ∙ rw (add-one now, o) (sym next-as));
     }
@@ -75,7 +76,7 @@ module _ (lowers : Bool) (now : ℕ) (runs : TaskSet) where
         let k = still lowers (runs i) (getD ts i noTask) z j in
         record {
           full = w .full;
-          tasks = each-keep workTask 32 (r .tasks) ts i noTask l (w .tasks) k;
+          tasks = each-keep workTask maxTasks (r .tasks) ts i noTask l (w .tasks) k;
           finished = mark-keep (finishes r) fs i l (w .finished) (finishes-as ∙ rw z);
           next = mark-keep (missesNext r) ls i l (w .next) (next-as ∙ ap (λ (t : Task). isMissed (suc now) (t .job)) k ∙ rw j);
         }
@@ -91,18 +92,18 @@ module _ (lowers : Bool) (now : ℕ) (runs : TaskSet) where
   -- what the pass leaves
   pub record Left (r a : Run) (fs ls : List Bool) : Type 0 where
     pub run : a ≡ eachTask workTask r
-    pub finished : fs ≡ tab (finishes r) 0 32
+    pub finished : fs ≡ tab (finishes r) 0 maxTasks
     pub next : ls ≡ missedIn (suc now) a
 
-  pub work-all : (r a : Run) (fs ls : List Bool) (i : ℕ) → 32 ≤ i → Working r (a .tasks) fs ls i → Left r a fs ls
+  pub work-all : (r a : Run) (fs ls : List Bool) (i : ℕ) → maxTasks ≤ i → Working r (a .tasks) fs ls i → Left r a fs ls
   work-all r a fs ls i l w =
-      let x : a ≡ eachTask workTask r = ap runOf (filling-all 32 _ _ _ i l (w .tasks)) in
+      let x : a ≡ eachTask workTask r = ap runOf (filling-all maxTasks _ _ _ i l (w .tasks)) in
       record {
         run = x;
         finished = mark-all (finishes r) fs i l (w .finished);
         next =
             mark-all (missesNext r) ls i l (w .next) ∙
-            rw x (tab-cong (missesNext r) _ 0 32
+            rw x (tab-cong (missesNext r) _ 0 maxTasks
             (λ i u k. ap (λ (t : Task). isMissed (suc now) (t .job))
             (sym (mapAt-at workTask (r .tasks) i noTask (omega (arith, w .full))))));
       }

@@ -5,12 +5,12 @@ use mathlib.Core.Path.{_≡_}
 use mathlib.Core.Bool.{Bool, true, false}
 use mathlib.Core.List.{List}
 use lib.ListN.{getD}
-use Rattle.rules.specs.Counts.{freeCount}
+use Rattle.rules.specs.Slot.{Setup, freeCountIn}
 use Rattle.jobs.specs.Tasks.{Early, Startable}
 
--- of a slot with `m` processors at time `now`
-pub record Needed (m now : ℕ) (table counts : List ℕ) (released : List Bool) : Type 0 where
-  pub some : 1 ≤ m
+-- of a slot of the setup `g` at time `now`, which is lent the free counts of the table's tasks
+pub record Needed (g : Setup) (now : ℕ) (counts : List ℕ) (released : List Bool) : Type 0 where
+  pub some : 1 ≤ g .procs
   pub early : Early now
-  pub startable : (i : ℕ) → getD released i false ≡ true → Startable table i
-  pub counted : (i : ℕ) → getD released i false ≡ true → getD counts i 0 ≡ freeCount m table i
+  pub startable : (i : ℕ) → getD released i false ≡ true → Startable (g .table) i
+  pub counted : (i : ℕ) → getD released i false ≡ true → getD counts i 0 ≡ freeCountIn g i

@@ -16,8 +16,8 @@ abbrev pub members : List Bool → TaskSet
 members xs i = getD xs i false
 
 -- the run after steps 1 to 3
-abbrev pub settled : Setup → ℕ → TaskSet → Run → Run
-settled g now released r = demoted g (readied g now released r)
+abbrev pub settledRun : Setup → ℕ → TaskSet → Run → Run
+settledRun g now released r = demoted g (readied g now released r)
 
 -- the tasks whose job step 1 of a time would remove as missed
 abbrev pub missedIn : ℕ → Run → List Bool
@@ -25,7 +25,7 @@ missedIn time r = tab (λ i. isMissed time (jobAt r i)) 0 maxTasks
 
 -- steps 1 to 3: the run, N, and the sets that step 1 removed as missed, that step 3 demoted and that are then present
 pub record Settles (g : Setup) (now : ℕ) (released : TaskSet) (r s : Run) (n : ℕ) (ms ds ps : List Bool) : Type 0 where
-  pub run : s ≡ settled g now released r
+  pub run : s ≡ settledRun g now released r
   pub jobs : n ≡ jobsNow s
   pub missed : ms ≡ tab (missed g now released r) 0 maxTasks
   pub demoted : ds ≡ tab (demotedNow g now released r) 0 maxTasks
@@ -48,7 +48,7 @@ Worked procs policy now runs r s fs ls = (table : List ℕ) → Works (setupOf p
 -- the whole slot
 pub record Stepped (g : Setup) (now : ℕ) (released : TaskSet) (r s : Run) (n : ℕ) (ms ds rs fs ls : List Bool) : Type 0 where
   pub run : s ≡ after g now released r
-  pub jobs : n ≡ jobsNow (settled g now released r)
+  pub jobs : n ≡ jobsNow (settledRun g now released r)
   pub missed : ms ≡ tab (missed g now released r) 0 maxTasks
   pub demoted : ds ≡ tab (demotedNow g now released r) 0 maxTasks
   pub ran : rs ≡ tab (ran g now released r) 0 maxTasks

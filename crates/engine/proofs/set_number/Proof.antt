@@ -6,6 +6,7 @@ use mathlib.Core.Logic.{⊎-elim}
 use Prim.Native.Nat.{_-_}
 use native.Mathlib.Omega.{arith}
 use lib.ListN.{getD}
+use Rattle.rules.specs.Limits.{maxTasks}
 use Rattle.rules.specs.Slot.{setNumber}
 use Rattle.engine.proofs.Powers.{Doubling, doubling-none, doubling-yes, doubling-no}
 use Rattle.engine.proofs.set_number.Statement.{statement}
@@ -15,7 +16,7 @@ abbrev Inv-loop : tie.InvT-loop
 Inv-loop set number₀ power₀ i₀ number power i = Doubling (λ j. getD set j false) i power number
 
 abbrev μ-loop : tie.MeasureT-loop
-μ-loop set number₀ power₀ i₀ number power i = 32 - i
+μ-loop set number₀ power₀ i₀ number power i = maxTasks - i
 
 loop-holds : tie.Need-loop-holds Inv-loop μ-loop
 loop-holds c = doubling-none _
@@ -49,7 +50,7 @@ cast-result c = omega arith
 returns : tie.Need-returns Inv-loop μ-loop
 unfolding setNumber
 returns c =
-    let e : c .before .loop .i ≡ 32 = omega arith in
+    let e : c .before .loop .i ≡ maxTasks = omega arith in
     rw e at (c .before .loop .inv .so-far)
 
 pub set-number-spec : {M : Type 1} → statement M

@@ -40,12 +40,16 @@ step-requires : tie.Need-step-requires Inv-loop μ-loop
 step-requires c κs =
     let released = c .before .before .before .before .before .before .before .before .take-releases in
     let loop-test = c .before .before .before .before .before .before .before .before .before .before .before .before .before .loop-test in
-    let q = c .before .before .before .before .before .before .before .before .before .before .before .before .before .before .before .before .before .before .pre in
+    let q =
+    c .before .before .before .before .before .before .before .before .before .before .before .before .before .before .before .before
+    .before .before .pre in
     needed _ (legal _ (q .0)) _ (omega (arith, loop-test .taken, q .1 .1 .1 .0)) _ (released .ensures .2) _ (q .1 .0)
 
 note-slot-requires : tie.Need-note-slot-requires Inv-loop μ-loop
 note-slot-requires c κs =
-    let loop-test = c .before .before .before .before .before .before .before .before .before .before .before .before .before .before .before .before .before .before .before .before .loop-test in
+    let loop-test =
+    c .before .before .before .before .before .before .before .before .before .before .before .before .before .before .before .before
+    .before .before .before .before .loop-test in
     let if2 = c .before .before .before .before .before .if2 in
     let at-step = c .before .before .before .before .before .before in
     let at-releases = at-step .before .before .before .before .before .before .before .before .before in
