@@ -50,8 +50,10 @@ pub fn release_fault(
     let ordered = faults::in_order(trace, j);
     if faults::both(faults::both(named, soon), ordered) {
         let i = name as usize - 1;
-        let apart = faults::is_apart(last[i], cases::period_of(table, i), time);
-        return faults::refuse_unless(apart, 10, place);
+        if faults::is_apart(last[i], cases::period_of(table, i), time) {
+            return faults::fault(0, 0);
+        }
+        return faults::fault(10, place);
     }
     let unnamed = faults::refuse_unless(named, 8, place);
     let too_late = faults::refuse_unless(soon, 11, place);

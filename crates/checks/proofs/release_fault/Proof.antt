@@ -1,14 +1,15 @@
 -- `checks::release_fault` meets its contract.
 use mathlib.Core.Path.{_≡_, sym, ap, _∙_}
-use mathlib.Core.Bool.{Bool, _&&_}
+use mathlib.Core.Bool.{Bool, true, false, _&&_}
 use mathlib.Core.List.{List}
-use Prim.Native.Nat.{ℕ, _-_, _≤_}
+use Prim.Native.Nat.{ℕ, _+_, _-_, _≤_}
 use native.Mathlib.Omega.{arith}
 use lib.Dec.{ltb}
 use lib.ListN.{getD}
 use Rattle.rules.specs.Limits.{maxTasks}
 use Rattle.rules.specs.Case.{period, nameOf, taskCount}
-use Rattle.rules.specs.Refusals.{lastBefore}
+use Rattle.rules.specs.Refusals.{unless, lastBefore, releaseFault}
+use Rattle.rules.specs.declared.Fault.{Fault}
 use Rattle.checks.proofs.Walk.{Near, near-found, near-fails, near-named, since-found, last-at}
 use borrow.Author.Needs.{needs}
 use Rattle.checks.proofs.release_fault.Statement.{statement}
@@ -123,16 +124,31 @@ is-apart-requires c κs =
     let T = start d .pre .0 .good (named-by d - 1) (omega (arith, bounds e)) .small in
     (rw (kept e) (start d .pre .4 _), rw (c .period-of .ensures, near d .name-read) T)
 
-refuse-unless-requires : tie.Need-refuse-unless-requires
-refuse-unless-requires c κs = search needs
+-- 10, as it is found
+since : (c : tie.After-is-apart) (far : Bool) (f : Fault) → c .is-apart .result ≡ far
+    → f ≡ unless far 10 (j (c .before .before .before .before) + 1)
+    → f ≡ releaseFault (table (c .before .before .before .before)) (end (c .before .before .before .before))
+    (trace (c .before .before .before .before)) (j (c .before .before .before .before))
+since c far f q x =
+    let e = c .before .before .before in
+    let d = e .before in
+    let T = c .before .period-of .ensures ∙ ap (λ (n : ℕ). period (table d) (n - 1)) (near d .name-read) in
+    since-found _ _ _ _ _ _ _ _ (near d) (sym (asked d) ∙ e .if1 .taken) _ _ far f (kept e) T (sym q ∙ c .is-apart .ensures) x
+
+fault-requires : tie.Need-fault-requires
+fault-requires c κs = search needs
 
 returns : tie.Need-returns
-returns c =
-    let e = c .before .before .before .before in
-    let d = e .before in
-    let T = c .before .before .period-of .ensures ∙ ap (λ (n : ℕ). period (table d) (n - 1)) (near d .name-read) in
-    since-found _ _ _ _ _ _ _ _ (near d) (sym (asked d) ∙ e .if1 .taken) _ _ _ _ (kept e) T (c .before .is-apart .ensures)
-    (c .refuse-unless .ensures)
+returns c = since (c .before .before) true _ (c .before .if2 .taken) (c .fault .ensures)
+
+fault-requires-2 : tie.Need-fault-requires-2
+fault-requires-2 c κs = search needs
+
+returns-2 : tie.Need-returns-2
+returns-2 c = since (c .before .before) false _ (c .before .if2 .left) (c .fault2 .ensures)
+
+refuse-unless-requires : tie.Need-refuse-unless-requires
+refuse-unless-requires c κs = search needs
 
 refuse-unless-requires-2 : tie.Need-refuse-unless-requires-2
 refuse-unless-requires-2 c κs = search needs
@@ -140,22 +156,19 @@ refuse-unless-requires-2 c κs = search needs
 refuse-unless-requires-3 : tie.Need-refuse-unless-requires-3
 refuse-unless-requires-3 c κs = search needs
 
-refuse-unless-requires-4 : tie.Need-refuse-unless-requires-4
-refuse-unless-requires-4 c κs = search needs
-
 first-of-three-requires : tie.Need-first-of-three-requires
 first-of-three-requires c κs = search needs
 
-returns-2 : tie.Need-returns-2
-returns-2 c =
+returns-3 : tie.Need-returns-3
+returns-3 c =
     let e = c .before .before .before .before in
     let d = e .before in
     let unordered = c .before in
     let late = unordered .before in
     let unnamed = late .before in
     near-fails _ _ _ _ _ _ _ _ (near d) (sym (asked d) ∙ e .if1 .left) _
-    (near-found _ _ _ _ _ _ _ _ (near d) _ _ _ _ (unnamed .refuse-unless2 .ensures) (late .refuse-unless3 .ensures)
-    (unordered .refuse-unless4 .ensures) (c .first-of-three .ensures))
+    (near-found _ _ _ _ _ _ _ _ (near d) _ _ _ _ (unnamed .refuse-unless .ensures) (late .refuse-unless2 .ensures)
+    (unordered .refuse-unless3 .ensures) (c .first-of-three .ensures))
 
 pub release-fault-spec : {M : Type 1} → statement M
 release-fault-spec =
@@ -175,10 +188,12 @@ release-fault-spec =
     element-copy-out-is-apart
     period-of-requires
     is-apart-requires
-    refuse-unless-requires
+    fault-requires
     returns
+    fault-requires-2
+    returns-2
+    refuse-unless-requires
     refuse-unless-requires-2
     refuse-unless-requires-3
-    refuse-unless-requires-4
     first-of-three-requires
-    returns-2)
+    returns-3)
