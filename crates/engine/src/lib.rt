@@ -13,7 +13,6 @@ ghost use Rattle.counts.specs.Needs.{Counts};
 ghost use Rattle.bridge.specs.Turn.{Reached};
 ghost use Rattle.engine.specs.Walks.{Orderly, places, releases, Rests, roomAt, LastRan};
 use rules::MAX_TASKS;
-use rules::RELEASE_WIDTH;
 use rules::Replayed;
 use rules::Run;
 use rules::Running;
@@ -35,11 +34,11 @@ fn take_releases(
         × (now (released .exit) ≡ releases (now (trace .entry)) (releaseCount (now (trace .entry))) clock) ⌝ }
 {
     *released = [false; MAX_TASKS];
-    let n = trace.len() / RELEASE_WIDTH;
+    let n = cases::release_count(trace);
     let mut k = from;
     while k < n {
-        if trace[k * RELEASE_WIDTH] == clock {
-            let i = trace[k * RELEASE_WIDTH + 1] as usize - 1;
+        if cases::time_of(trace, k) == clock {
+            let i = cases::name_of(trace, k) as usize - 1;
             released[i] = true;
             place[i] = k;
             k += 1;
@@ -54,10 +53,10 @@ fn take_releases(
 fn rests(trace: &[u32], next: usize, jobs: usize, clock: u32) -> bool
     ensures { λ r. ⌜ (r ≡ true → Rests (now (trace .entry)) next jobs clock) ⌝ }
 {
-    let n = trace.len() / RELEASE_WIDTH;
+    let n = cases::release_count(trace);
     if jobs == 0 {
         if next < n {
-            return trace[next * RELEASE_WIDTH] != clock;
+            return cases::time_of(trace, next) != clock;
         }
         return true;
     }
@@ -144,7 +143,7 @@ fn replay_run(
     requires { ⌜ releaseCount (now trace) * recordWidth ≤ length (now out) ⌝ }
     ensures { λ r. ⌜ now (out .exit) ≡ roomAfter (caseOf procs policy (now (table .entry)) end (now (trace .entry))) (now (out .entry)) ⌝ }
 {
-    let n = trace.len() / RELEASE_WIDTH;
+    let n = cases::release_count(trace);
     notes::open_records(out, n);
     let first = slot::fresh_run();
     walk(
@@ -182,7 +181,7 @@ pub fn replay(
     }
     let free = counts::free_counts(procs, table);
     replay_run(procs, policy, table, free, end, trace, out);
-    let n = trace.len() / RELEASE_WIDTH;
+    let n = cases::release_count(trace);
     let met = notes::marked_in(out, n, 1);
     let missed = notes::marked_in(out, n, 2);
     let open = notes::marked_in(out, n, 3);

@@ -1,12 +1,11 @@
 -- What the steps of a slot make of one job and of one task, beside the definitions of rules, Slot, which speak of a whole run; and what
 -- step 2 needs of the table.
-use Prim.Native.Nat.{ℕ, suc, _+_, _*_, _≤_, _<_}
+use Prim.Native.Nat.{ℕ, suc, _+_, _≤_, _<_}
 use mathlib.Core.Bool.{Bool, true, false}
 use mathlib.Core.List.{List}
-use lib.ListN.{length}
 use Rattle.rules.specs.Words.{pick}
-use Rattle.rules.specs.Limits.{maxPeriod, taskWidth}
-use Rattle.rules.specs.Case.{execution, deadline}
+use Rattle.rules.specs.Limits.{maxPeriod}
+use Rattle.rules.specs.Case.{taskCount, execution, deadline}
 use Rattle.rules.specs.Slot.{leftOf, dueOf, withJob, judgedTask, loweredJob, workedJob}
 use Rattle.rules.specs.declared.Job.{Job}
 use Rattle.rules.specs.declared.Job.the-variants.{Idle, Normal, Demoted}
@@ -23,7 +22,7 @@ Early now = now ≤ 4000000000
 
 -- the task at i stands in the table, and its deadline is a short one
 pub record Startable (table : List ℕ) (i : ℕ) : Type 0 where
-  pub inside : i * taskWidth + 2 < length table
+  pub inside : i < taskCount table
   pub short : deadline table i ≤ maxPeriod
 
 -- a task with the job that step 2 gives it, its free count told

@@ -10,7 +10,6 @@ ghost use Rattle.rules.specs.Slot.{isLast, workedJob};
 ghost use Rattle.rules.specs.Policies.{demoting};
 ghost use Rattle.jobs.specs.Tasks.{isNormal, Early, Startable, startedTask, readiedTask, demotedIf, loweredIf, workedIf, workedOn};
 use rules::Job;
-use rules::TASK_WIDTH;
 use rules::Task;
 
 // ---- what a job has
@@ -150,13 +149,13 @@ pub fn readied_task(t: Task, table: &[u32], i: usize, free: u32, released: bool,
 {
     let next = clock + 1;
     if released {
-        let left = table[i * TASK_WIDTH + 1];
-        let due = clock + table[i * TASK_WIDTH + 2];
+        let execution = cases::execution_of(table, i);
+        let due = clock + cases::deadline_of(table, i);
         Task {
             number: t.number,
             last: next,
             job: Job::Normal {
-                left: left,
+                left: execution,
                 free: free,
                 due: due,
             },

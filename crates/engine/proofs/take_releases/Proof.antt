@@ -1,10 +1,10 @@
 -- `engine::take_releases` meets its contract.
 use Rattle.rules.specs.Words.{tab}
 use Rattle.rules.specs.Limits.{maxTasks}
-use Rattle.rules.specs.Case.{nameOf}
+use Rattle.rules.specs.Case.{releaseCount}
 use native.Mathlib.Omega.{arith}
-use mathlib.Core.Path.{refl}
-use Prim.Native.Nat.{_-_, _≤_}
+use mathlib.Core.Path.{ap, sym, _∙_}
+use Prim.Native.Nat.{ℕ, _-_, _≤_, _<_}
 use Rattle.engine.proofs.Trace.{Taking, taking-none, taking-more, taking-done}
 use borrow.Author.Needs.{needs}
 use Rattle.engine.proofs.take_releases.Statement.{statement}
@@ -16,51 +16,42 @@ Inv-loop trace from clock place₀ released₀ n k₀ place released k = (from �
 abbrev μ-loop : tie.MeasureT-loop
 μ-loop trace from clock place₀ released₀ n k₀ place released k = n - k
 
--- the release at hand names one of 32 tasks
-named : (c : tie.Then1 Inv-loop μ-loop) → (1 ≤ nameOf (c .before .before .before .before .before .args .trace .now)
-    (c .before .before .before .loop .k))
-    × (nameOf (c .before .before .before .before .before .args .trace .now) (c .before .before .before .loop .k) ≤ maxTasks)
-named c = c .before .before .before .before .before .pre .0 .named (c .before .before .before .loop .k) (omega arith)
+-- the release at hand is one of the trace, and names one of the tasks that a run has
+more : (c : tie.After-name-of Inv-loop μ-loop) → c .before .before .before .before .loop .k < releaseCount (c .before .before .before .before .before .before .before .before .args .trace .now)
+more c = omega (arith, c .before .before .before .loop-test .taken, c .before .before .before .before .before .release-count .ensures)
+
+named : (c : tie.After-name-of Inv-loop μ-loop) → (1 ≤ c .name-of .result) × (c .name-of .result ≤ maxTasks)
+named c =
+    let w = c .before .before .before .before .before .before .before .before .pre .0 .named (c .before .before .before .before .loop .k) (more c) in
+    (omega (arith, w .0, c .name-of .ensures), omega (arith, w .1, c .name-of .ensures))
+
+release-count-requires : tie.Need-release-count-requires Inv-loop μ-loop
+release-count-requires c κs = search needs
 
 loop-holds : tie.Need-loop-holds Inv-loop μ-loop
 unfolding tab
-loop-holds c = (omega arith, taking-none _ _ _ _ (c .before .pre .1 .0) (c .before .pre .1 .1))
+loop-holds c = (omega arith, taking-none _ _ _ _ (c .before .before .before .pre .1 .0) (c .before .before .before .pre .1 .1))
 
-mul-if1 : tie.Need-mul-if1 Inv-loop μ-loop
-mul-if1 c = search needs
+time-of-requires : tie.Need-time-of-requires Inv-loop μ-loop
+time-of-requires c κs = omega (arith, c .loop-test .taken, c .before .before .release-count .ensures)
 
-mul-if1-2 : tie.Need-mul-if1-2 Inv-loop μ-loop
-mul-if1-2 c = search needs
-
-shared-slice-read-if1 : tie.Need-shared-slice-read-if1 Inv-loop μ-loop
-shared-slice-read-if1 c = search needs
-
-mul-i : tie.Need-mul-i Inv-loop μ-loop
-mul-i c = search needs
-
-add-i : tie.Need-add-i Inv-loop μ-loop
-add-i c = search needs
-
-mul-i-2 : tie.Need-mul-i-2 Inv-loop μ-loop
-mul-i-2 c = search needs
-
-shared-slice-read-i : tie.Need-shared-slice-read-i Inv-loop μ-loop
-shared-slice-read-i c = search needs
+name-of-requires : tie.Need-name-of-requires Inv-loop μ-loop
+name-of-requires c κs = omega (arith, c .before .before .loop-test .taken, c .before .before .before .before .release-count .ensures)
 
 cast-i : tie.Need-cast-i Inv-loop μ-loop
-cast-i c = omega (arith, named (c .before))
+cast-i c = search needs
 
 sub-i : tie.Need-sub-i Inv-loop μ-loop
-sub-i c = omega (arith, named (c .before))
+sub-i c = omega (arith, named c)
 
 element-write-released : tie.Need-element-write-released Inv-loop μ-loop
-element-write-released c = omega (arith, named (c .before))
+element-write-released c = omega (arith, named c)
 
 mul-place : tie.Need-mul-place Inv-loop μ-loop
-mul-place c = omega (arith, named (c .before))
+mul-place c = omega (arith, named c)
 
 element-write-place : tie.Need-element-write-place Inv-loop μ-loop
-element-write-place c = omega (arith, named (c .before))
+element-write-place c = omega (arith, named c)
 
 add-k : tie.Need-add-k Inv-loop μ-loop
 add-k c = search needs
@@ -70,21 +61,24 @@ loop-less c = search needs
 
 loop-again : tie.Need-loop-again Inv-loop μ-loop
 loop-again c =
-    let loop-test = c .before .before .before .loop-test in
-    let l = c .before .before .before .before .loop in
-    let q = c .before .before .before .before .before .before .pre in
-    (omega arith, taking-more _ _ (l .k) _ _ _ (q .0) (loop-test .taken) (c .before .if1 .taken) refl (l .inv .1))
+    let at-loop = c .before .before .before .before in
+    let l = at-loop .loop in
+    let q = at-loop .before .before .before .before .pre in
+    let now = sym (c .before .before .time-of .ensures) ∙ c .before .if1 .taken in
+    let index = ap (λ (n : ℕ). n - 1) (c .name-of .ensures) in
+    (omega arith, taking-more _ _ (l .k) _ _ _ (q .0) (more c) now index (l .inv .1))
 
 returns : tie.Need-returns Inv-loop μ-loop
 returns c =
     let l = c .before .before .before .loop in
-    let t = taking-done _ _ (l .k) _ _ (c .before .before .before .before .before .pre .0) (λ h e. c .if1 .left e) (l .inv .1) in
+    let t = taking-done _ _ (l .k) _ _ (c .before .before .before .before .before .before .before .pre .0) (λ h e. c .if1 .left (c .before .time-of .ensures ∙ e)) (l .inv .1) in
     (t .reached, t .at-place, t .at-released)
 
 returns-2 : tie.Need-returns-2 Inv-loop μ-loop
 returns-2 c =
     let l = c .before .loop in
-    let t = taking-done _ _ (l .k) _ _ (c .before .before .before .pre .0) (λ h e. omega arith) (l .inv .1) in
+    let count = c .before .before .release-count .ensures in
+    let t = taking-done _ _ (l .k) _ _ (c .before .before .before .before .before .pre .0) (λ h e. omega (arith, c .loop-test .left, count)) (l .inv .1) in
     (t .reached, t .at-place, t .at-released)
 
 pub take-releases-spec : {M : Type 1} → statement M
@@ -93,14 +87,10 @@ take-releases-spec =
     (tie.spec
     Inv-loop
     μ-loop
+    release-count-requires
     loop-holds
-    mul-if1
-    mul-if1-2
-    shared-slice-read-if1
-    mul-i
-    add-i
-    mul-i-2
-    shared-slice-read-i
+    time-of-requires
+    name-of-requires
     cast-i
     sub-i
     element-write-released
