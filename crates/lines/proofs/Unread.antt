@@ -1,6 +1,6 @@
 -- Laws of `linesOf`: the lines of a text are what its first line says and the lines of what is unread after it, which starts behind the
 -- newline at which the line ends.
-use mathlib.Core.Path.{_≡_, sym, ap, _∙_}
+use mathlib.Core.Path.{_≡_, refl, sym, ap, _∙_}
 use mathlib.Core.List.{List, _∷_}
 use Prim.Native.Nat.{ℕ, suc, _+_, _≤_, _<_}
 use native.Mathlib.Omega.{arith}
@@ -11,7 +11,10 @@ use Rattle.rules.specs.Reader.{lineSays, linesOf}
 use Rattle.rules.specs.declared.Line.the-variants.{Bad}
 use Rattle.texts.specs.LinesOf.{linesOf-some}
 use Rattle.scan.proofs.Parts.{drop-past, none-past, has-some, has-none, upTo-le}
+use Rattle.kinds.specs.declared.Said.{Said}
+use Rattle.kinds.specs.Says.{Says}
 use Rattle.lines.specs.Held.{nextSays}
+use Rattle.lines.specs.Gathers.{NextLine}
 
 pub lines-next : (s : List ℕ) → 0 < length s → linesOf s ≡ nextSays s ∷ linesOf (afterLine s)
 unfolding nextSays
@@ -19,27 +22,31 @@ lines-next s h = linesOf-some s h
 
 -- the line at `at` ends at e
 module _ (s : List ℕ) (at e : ℕ) (ends : e ≡ at + length (upTo newlineByte (drop at s))) where
-  -- with its newline
-  pub ended-says : e < length s → lineSays (lineOf (drop at s)) ≡ nextSays (drop at s)
-  unfolding nextSays
-  ended-says h = rw (has-some newlineByte (drop at s) (omega (arith, length-drop at s)))
-
-  pub ended-after : e < length s → drop (e + 1) s ≡ afterLine (drop at s)
-  unfolding afterLine
-  ended-after h =
+  -- with its newline, and its bytes say what was found
+  pub ended : (line : List ℕ) (found : Said) → e < length s → line ≡ lineOf (drop at s) → Says line found
+      → NextLine s at (record { kind = found .kind; said = found .line; next = e + 1 })
+  unfolding nextSays afterLine
+  ended line found h p w =
       let u = upTo newlineByte (drop at s) in
       let k : e + 1 ≡ at + suc (length u) = omega arith in
-      ap (λ (n : ℕ). drop n s) k ∙ sym (drop-drop (suc (length u)) at s) ∙
-      drop-past newlineByte (drop at s) (omega (arith, length-drop at s))
+      let here : length u < length (drop at s) = omega (arith, length-drop at s) in
+      record {
+        said = w .line ∙ ap lineSays p ∙ rw (has-some newlineByte (drop at s) here);
+        opens = w .opens;
+        unread = ap (λ (n : ℕ). drop n s) k ∙ sym (drop-drop (suc (length u)) at s) ∙ drop-past newlineByte (drop at s) here;
+        on = omega arith;
+        within = omega arith;
+      }
 
   -- without it, at the end of the text
-  pub last-long : at ≤ length s → length s ≤ e → e ≡ length s
-  last-long p h = omega (arith, length-drop at s, upTo-le newlineByte (drop at s))
-
-  pub last-says : length s ≤ e → Bad ≡ nextSays (drop at s)
-  unfolding nextSays
-  last-says h = rw (has-none newlineByte (drop at s) (omega (arith, length-drop at s)))
-
-  pub last-after : length s ≤ e → drop e s ≡ afterLine (drop at s)
-  unfolding afterLine
-  last-after h = drop-of-length-le s h ∙ sym (none-past newlineByte (drop at s) (omega (arith, length-drop at s)))
+  pub last : at < length s → length s ≤ e → NextLine s at (record { kind = 0; said = Bad; next = e })
+  unfolding nextSays afterLine
+  last l h =
+      let none : length (drop at s) ≤ length (upTo newlineByte (drop at s)) = omega (arith, length-drop at s) in
+      record {
+        said = rw (has-none newlineByte (drop at s) none);
+        opens = λ q. absurd (q refl);
+        unread = drop-of-length-le s h ∙ sym (none-past newlineByte (drop at s) none);
+        on = omega arith;
+        within = omega (arith, length-drop at s, upTo-le newlineByte (drop at s));
+      }
