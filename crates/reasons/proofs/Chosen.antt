@@ -69,9 +69,11 @@ said : {text old new : List ℕ} {end : ℕ} (n p : ℕ) → text ≡ reasonOf n
 said n p f l = let m = rw f at l in record { laid = m; short = omega (arith, m .behind, reason-short n p) }
 
 -- what is laid are the words of the number k, and the refusal's number is k
-pub chosen : {n : ℕ} {text old new : List ℕ} {end : ℕ} (p k : ℕ) → n ≡ k → text ≡ reasonOf k p → Laid 0 text old new end
+pub chosen : {n : ℕ} {old new : List ℕ} {end : ℕ} (p k : ℕ) → n ≡ k
+    → Laid 0 (getD (plainReason k p ∷ reasons p) k (plainReason k p)) old new end
     → Said (reasonOf n p) old new end
-chosen p k e f l = rw e (said k p f l)
+unfolding reasonOf
+chosen p k e l = rw e (said k p refl l)
 
 -- a number that is none of 1 to k, as a match says it in its last arm
 abbrev pub Outside : ℕ → ℕ → Type 0

@@ -1,6 +1,5 @@
 -- `reasons::put_reason` meets its contract: in each arm the words are known by the number.
-use mathlib.Core.Path.{refl}
-use Rattle.reasons.specs.Reasons.{signBytes, words, reasonOf}
+use Rattle.reasons.specs.Reasons.{signBytes, words}
 use Rattle.reasons.proofs.Chosen.{chosen, plainly}
 use borrow.Author.Needs.{needs}
 use Rattle.reasons.proofs.put_reason.Statement.{statement}
@@ -124,160 +123,112 @@ same-length : tie.Need-same-length
 same-length c = search needs
 
 returns : tie.Need-returns
-unfolding reasonOf words signBytes
-returns c =
-    let start = c .before .before .before .before .before .before .before in
-    let match = c .before .before .before .before .before .match in
-    chosen (start .args .place) 1 (match .keys1) refl (c .before .before .put-bytes .ensures)
+unfolding words signBytes
+returns c = chosen _ 1 (search needs) (c .before .before .put-bytes .ensures)
 
 same-length-2 : tie.Need-same-length-2
 same-length-2 c = search needs
 
 returns-2 : tie.Need-returns-2
-unfolding reasonOf words signBytes
-returns-2 c =
-    let start = c .before .before .before .before .before .before .before .before in
-    let match = c .before .before .before .before .before .before .match in
-    chosen (start .args .place) 2 (match .keys2) refl (c .before .before .put-placed .ensures)
+unfolding words signBytes
+returns-2 c = chosen _ 2 (search needs) (c .before .before .put-placed .ensures)
 
 same-length-3 : tie.Need-same-length-3
 same-length-3 c = search needs
 
 returns-3 : tie.Need-returns-3
-unfolding reasonOf words signBytes
-returns-3 c =
-    let start = c .before .before .before .before .before .before .before .before in
-    let match = c .before .before .before .before .before .before .match in
-    chosen (start .args .place) 3 (match .keys3) refl (c .before .before .put-placed2 .ensures)
+unfolding words signBytes
+returns-3 c = chosen _ 3 (search needs) (c .before .before .put-placed2 .ensures)
 
 same-length-4 : tie.Need-same-length-4
 same-length-4 c = search needs
 
 returns-4 : tie.Need-returns-4
-unfolding reasonOf words signBytes
-returns-4 c =
-    let start = c .before .before .before .before .before .before .before in
-    let match = c .before .before .before .before .before .match in
-    chosen (start .args .place) 4 (match .keys4) refl (c .before .before .put-bytes2 .ensures)
+unfolding words signBytes
+returns-4 c = chosen _ 4 (search needs) (c .before .before .put-bytes2 .ensures)
 
 same-length-5 : tie.Need-same-length-5
 same-length-5 c = search needs
 
 returns-5 : tie.Need-returns-5
-unfolding reasonOf words signBytes
-returns-5 c =
-    let start = c .before .before .before .before .before .before .before in
-    let match = c .before .before .before .before .before .match in
-    chosen (start .args .place) 5 (match .keys5) refl (c .before .before .put-bytes3 .ensures)
+unfolding words signBytes
+returns-5 c = chosen _ 5 (search needs) (c .before .before .put-bytes3 .ensures)
 
 same-length-6 : tie.Need-same-length-6
 same-length-6 c = search needs
 
 returns-6 : tie.Need-returns-6
-unfolding reasonOf words signBytes
-returns-6 c =
-    let start = c .before .before .before .before .before .before .before .before in
-    let match = c .before .before .before .before .before .before .match in
-    chosen (start .args .place) 6 (match .keys6) refl (c .before .before .put-placed3 .ensures)
+unfolding words signBytes
+returns-6 c = chosen _ 6 (search needs) (c .before .before .put-placed3 .ensures)
 
 same-length-7 : tie.Need-same-length-7
 same-length-7 c = search needs
 
 returns-7 : tie.Need-returns-7
-unfolding reasonOf words signBytes
-returns-7 c =
-    let start = c .before .before .before .before .before .before .before in
-    let match = c .before .before .before .before .before .match in
-    chosen (start .args .place) 7 (match .keys7) refl (c .before .before .put-bytes4 .ensures)
+unfolding words signBytes
+returns-7 c = chosen _ 7 (search needs) (c .before .before .put-bytes4 .ensures)
 
 same-length-8 : tie.Need-same-length-8
 same-length-8 c = search needs
 
 returns-8 : tie.Need-returns-8
-unfolding reasonOf words signBytes
-returns-8 c =
-    let start = c .before .before .before .before .before .before .before .before in
-    let match = c .before .before .before .before .before .before .match in
-    chosen (start .args .place) 8 (match .keys8) refl (c .before .before .put-placed4 .ensures)
+unfolding words signBytes
+returns-8 c = chosen _ 8 (search needs) (c .before .before .put-placed4 .ensures)
 
 same-length-9 : tie.Need-same-length-9
 same-length-9 c = search needs
 
 returns-9 : tie.Need-returns-9
-unfolding reasonOf words signBytes
-returns-9 c =
-    let start = c .before .before .before .before .before .before .before .before in
-    let match = c .before .before .before .before .before .before .match in
-    chosen (start .args .place) 9 (match .keys9) refl (c .before .before .put-placed5 .ensures)
+unfolding words signBytes
+returns-9 c = chosen _ 9 (search needs) (c .before .before .put-placed5 .ensures)
 
 same-length-10 : tie.Need-same-length-10
 same-length-10 c = search needs
 
 returns-10 : tie.Need-returns-10
-unfolding reasonOf words signBytes
-returns-10 c =
-    let start = c .before .before .before .before .before .before .before .before in
-    let match = c .before .before .before .before .before .before .match in
-    chosen (start .args .place) 10 (match .keys10) refl (c .before .before .put-placed6 .ensures)
+unfolding words signBytes
+returns-10 c = chosen _ 10 (search needs) (c .before .before .put-placed6 .ensures)
 
 same-length-11 : tie.Need-same-length-11
 same-length-11 c = search needs
 
 returns-11 : tie.Need-returns-11
-unfolding reasonOf words signBytes
-returns-11 c =
-    let start = c .before .before .before .before .before .before .before .before in
-    let match = c .before .before .before .before .before .before .match in
-    chosen (start .args .place) 11 (match .keys11) refl (c .before .before .put-placed7 .ensures)
+unfolding words signBytes
+returns-11 c = chosen _ 11 (search needs) (c .before .before .put-placed7 .ensures)
 
 same-length-12 : tie.Need-same-length-12
 same-length-12 c = search needs
 
 returns-12 : tie.Need-returns-12
-unfolding reasonOf words signBytes
-returns-12 c =
-    let start = c .before .before .before .before .before .before .before in
-    let match = c .before .before .before .before .before .match in
-    chosen (start .args .place) 12 (match .keys12) refl (c .before .before .put-bytes5 .ensures)
+unfolding words signBytes
+returns-12 c = chosen _ 12 (search needs) (c .before .before .put-bytes5 .ensures)
 
 same-length-13 : tie.Need-same-length-13
 same-length-13 c = search needs
 
 returns-13 : tie.Need-returns-13
-unfolding reasonOf words signBytes
-returns-13 c =
-    let start = c .before .before .before .before .before .before .before in
-    let match = c .before .before .before .before .before .match in
-    chosen (start .args .place) 13 (match .keys13) refl (c .before .before .put-bytes6 .ensures)
+unfolding words signBytes
+returns-13 c = chosen _ 13 (search needs) (c .before .before .put-bytes6 .ensures)
 
 same-length-14 : tie.Need-same-length-14
 same-length-14 c = search needs
 
 returns-14 : tie.Need-returns-14
-unfolding reasonOf words signBytes
-returns-14 c =
-    let start = c .before .before .before .before .before .before .before in
-    let match = c .before .before .before .before .before .match in
-    chosen (start .args .place) 14 (match .keys14) refl (c .before .before .put-bytes7 .ensures)
+unfolding words signBytes
+returns-14 c = chosen _ 14 (search needs) (c .before .before .put-bytes7 .ensures)
 
 same-length-15 : tie.Need-same-length-15
 same-length-15 c = search needs
 
 returns-15 : tie.Need-returns-15
-unfolding reasonOf words signBytes
-returns-15 c =
-    let start = c .before .before .before .before .before .before .before in
-    let match = c .before .before .before .before .before .match in
-    chosen (start .args .place) 15 (match .keys15) refl (c .before .before .put-bytes8 .ensures)
+unfolding words signBytes
+returns-15 c = chosen _ 15 (search needs) (c .before .before .put-bytes8 .ensures)
 
 same-length-16 : tie.Need-same-length-16
 same-length-16 c = search needs
 
 returns-16 : tie.Need-returns-16
-returns-16 c =
-    let start = c .before .before .before .before .before .before in
-    let match = c .before .before .before .before .match in
-    plainly (start .args .number) (start .args .place) (match .rest) (c .before .before .put-plain .ensures)
+returns-16 c = plainly _ _ (c .before .before .before .before .match .rest) (c .before .before .put-plain .ensures)
 
 pub put-reason-spec : {M : Type 1} → statement M
 put-reason-spec =
