@@ -1,64 +1,44 @@
 -- The fault of what is asked of a text, by the reader's answer: a refusal is the text's, and an accepted text leaves what is asked.
 use mathlib.Core.Path.{_≡_, refl, sym, ap, _∙_}
-use mathlib.Core.Bool.{Bool, true, false, false≢true}
+use mathlib.Core.Bool.{Bool, true, false}
 use mathlib.Core.List.{List}
-use Prim.Native.Nat.{ℕ}
+use Prim.Native.Nat.{ℕ, _*_}
 use native.Mathlib.Omega.{arith}
 use lib.Dec.{eqb, ltb}
 use lib.ListN.{length}
 use Rattle.rules.specs.Words.{pick}
+use Rattle.rules.specs.Limits.{maxTasks, maxReleases, taskWidth, releaseWidth}
 use Rattle.rules.specs.Case.{Case}
-use Rattle.rules.specs.Refusals.{faultOf, noFault, unless, orNext, slotFault}
-use Rattle.rules.specs.Answers.{refusal, result, settled, takenAs}
-use Rattle.rules.specs.Reader.{caseIn, textFault, readFault, caseValues, readAnswer}
+use Rattle.rules.specs.Refusals.{faultOf, unless, orNext, slotFault}
+use Rattle.rules.specs.Answers.{takenAs}
+use Rattle.rules.specs.Reader.{caseIn, textFault, readAnswer}
 use Rattle.rules.specs.Replay.{runningSet}
 use Rattle.rules.specs.Report.{refusedLine}
-use Rattle.rules.specs.declared.Fault.{Fault}
 use Rattle.rules.specs.declared.Taken.{Taken}
 use Rattle.rules.specs.declared.Taken.the-variants as Taken·
-use Rattle.legal.specs.Settled.{no-refusal}
+use Rattle.legal.specs.Firsts.{next-none, next-some}
 use Rattle.prints.specs.Lines.{runningLine}
 use Rattle.answers.specs.Prints.{caseSays, textSays}
 use Rattle.wishes.specs.Asks.{askedFault}
 use Rattle.answers.specs.Prints.{wishFault}
 use Rattle.wishes.specs.declared.Wish.{Wish}
 use Rattle.wishes.specs.declared.Wish.the-variants.{Unknown, Help, Replay, Counts, Slot, Write}
-use Rattle.answers.proofs.Taken.{read-fault, text-clear, case-read}
-
--- a refusal is that of its fault
-refused-by : (f : Fault) (vs : List ℕ) (n p : ℕ) → refusal n p ≡ settled f vs → (eqb (f .number) 0 ≡ false) × (faultOf n p ≡ f)
-unfolding settled
-refused-by f vs n p h = go (eqb (f .number) 0) refl h
-  where
-    go : (b : Bool) → eqb (f .number) 0 ≡ b → refusal n p ≡ pick b (result vs) (refusal (f .number) (f .place))
-        → (eqb (f .number) 0 ≡ false) × (faultOf n p ≡ f)
-    go true q e = absurd (no-refusal n p vs e)
-    go false q e =
-        let a : n ≡ f .number = cc in
-        let b : p ≡ f .place = cc in
-        (q, rw (a, b))
+use Rattle.answers.proofs.Taken.{refused-fault, text-clear, case-read}
 
 module _ (w : Wish) (s ts rs : List ℕ) (x : Taken) (h : takenAs x ≡ readAnswer s ts rs) where
-  pub fault-refused : (n p : ℕ) → x ≡ Taken·.Refused n p → 96 ≡ length ts → 4000 ≡ length rs → faultOf n p ≡ wishFault w s
-  unfolding readAnswer wishFault orNext
+  pub fault-refused : (n p : ℕ) → x ≡ Taken·.Refused n p → maxTasks * taskWidth ≡ length ts → maxReleases * releaseWidth ≡ length rs
+      → faultOf n p ≡ wishFault w s
+  unfolding wishFault
   fault-refused n p e a b =
-      let f : readFault s (length ts) (length rs) ≡ pick (eqb (textFault s .number) 0) noFault (textFault s) =
-      read-fault s ts rs (omega arith) (omega arith) in
-      let r = refused-by (pick (eqb (textFault s .number) 0) noFault (textFault s))
-      (caseValues (caseIn s)) n p (sym (ap takenAs e) ∙ h ∙ ap (λ (g : Fault). settled g (caseValues (caseIn s))) f) in
-      go (eqb (textFault s .number) 0) (r .0) (r .1)
-    where
-      go : (b : Bool) → eqb (pick b noFault (textFault s) .number) 0 ≡ false → faultOf n p ≡ pick b noFault (textFault s)
-          → faultOf n p ≡ pick b (askedFault w (caseIn s .end)) (textFault s)
-      go true y z = absurd (false≢true (sym y))
-      go false y z = z
+      let r = refused-fault s ts rs n p (omega arith) (omega arith) (sym (ap takenAs e) ∙ h) in
+      r .1 ∙ sym (next-some (textFault s) _ (r .0))
 
   pub fault-read : (m p e n k : ℕ) → x ≡ Taken·.Read m p e n k → askedFault w e ≡ wishFault w s
-  unfolding wishFault orNext
+  unfolding wishFault
   fault-read m p e n k q =
       let g = sym (ap takenAs q) ∙ h in
       let d : e ≡ caseIn s .end = ap (λ (c : Case). c .end) (case-read s ts rs m p e n k g) in
-      rw (text-clear s ts rs m p e n k g, d)
+      ap (askedFault w) d ∙ sym (next-none (textFault s) _ (text-clear s ts rs m p e n k g))
 
 -- where there is a fault, what is printed is the line of that refusal
 slot-printed : (c : Case) (b : Bool) (t : ℕ) → (unless b 15 0 .number ≡ 0 → ⊥)

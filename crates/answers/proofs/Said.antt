@@ -36,7 +36,7 @@ pub refusal-shown : (s ts rs : List ℕ) (w : Wish) (t : Taken) (n p : ℕ) (old
     → Printed lineRoom (refusalText (takenAs t)) old new k
     → Printed printRoom (textSays w s) old new k
 refusal-shown s ts rs w t n p old new k e h a b q =
-    let l : refusedLine n p ≡ textSays w s = refused-text s ts rs w n p (omega (arith, a)) (omega (arith, b)) (sym (ap takenAs e) ∙ h) in
+    let l : refusedLine n p ≡ textSays w s = refused-text s ts rs n p (omega (arith, a)) (omega (arith, b)) (sym (ap takenAs e) ∙ h) w in
     rw l at (line-fits (rw e at q))
 
 module _ (s ts rs : List ℕ) (t : Taken) (m p e n k : ℕ) (q : t ≡ Taken·.Read m p e n k) (h : takenAs t ≡ readAnswer s ts rs) where

@@ -1,49 +1,39 @@
 -- What the reader's answer says of the text: a refusal is the text's, and the case read is the text's case and accepted.
 use mathlib.Core.Path.{_≡_, sym, ap, _∙_}
-use mathlib.Core.Bool.{Bool, true, false, false≢true}
 use mathlib.Core.List.{List, [], _∷_}
 use Prim.Native.Nat.{ℕ, _*_, _≤_}
 use native.Mathlib.Omega.{arith}
-use lib.Dec.{eqb}
 use lib.ListN.{length, getD, take, drop, length-append}
-use borrow.Author.Tests.{le-leb}
-use Rattle.rules.specs.Words.{pick}
+use borrow.Author.Tests.{ne-eqb}
 use Rattle.rules.specs.declared.Fault.{Fault}
 use Rattle.rules.specs.Limits.{maxTasks, maxReleases, taskWidth, releaseWidth}
 use Rattle.rules.specs.Case.{caseOf, taskCount, releaseCount}
-use Rattle.rules.specs.Refusals.{noFault, orNext, roomFault, Accepted}
+use Rattle.rules.specs.Refusals.{faultOf, Accepted}
 use Rattle.rules.specs.Answers.{refusal, result, settled}
 use Rattle.rules.specs.Reader.{caseIn, textFault, readFault, caseValues, readAnswer, readTasks, readReleases}
 use Rattle.rules.specs.Report.{refusedLine}
-use Rattle.legal.specs.Legal.{Legal, legal, next-clear}
+use Rattle.legal.specs.Legal.{Legal, legal}
 use Rattle.legal.specs.Settled.{settled-result}
+use Rattle.texts.specs.Passing.{read-clear, read-roomy}
 use Rattle.roundtrip.specs.RoundTrip.{case-accepted}
 use Rattle.roundtrip.specs.CallTrip.{inHand, ReadAs, read-as}
 use Rattle.answers.specs.Prints.{caseSays, textSays}
 use Rattle.wishes.specs.declared.Wish.{Wish}
-use Rattle.report.proofs.Answers.{refusal-says}
+use Rattle.report.proofs.Answers.{refused-by}
 
 module _ (s ts rs : List ℕ) where
   -- ---- a refusal
-  pub read-fault : maxTasks * taskWidth ≤ length ts → maxReleases * releaseWidth ≤ length rs
-      → readFault s (length ts) (length rs) ≡ pick (eqb (textFault s .number) 0) noFault (textFault s)
-  unfolding readFault roomFault orNext
-  read-fault p q = rw (le-leb (maxTasks * taskWidth) (length ts) p, le-leb (maxReleases * releaseWidth) (length rs) q)
+  module _ (n p : ℕ) (a : maxTasks * taskWidth ≤ length ts) (b : maxReleases * releaseWidth ≤ length rs)
+      (h : refusal n p ≡ readAnswer s ts rs) where
+    pub refused-fault : (textFault s .number ≡ 0 → ⊥) × (faultOf n p ≡ textFault s)
+    unfolding readAnswer
+    refused-fault =
+        refused-by (textFault s) _ n p (h ∙ ap (λ (f : Fault). settled f (caseValues (caseIn s))) (read-roomy s _ _ a b))
 
-  pub refused-text : (w : Wish) (n p : ℕ) → maxTasks * taskWidth ≤ length ts → maxReleases * releaseWidth ≤ length rs
-      → refusal n p ≡ readAnswer s ts rs → refusedLine n p ≡ textSays w s
-  unfolding readAnswer textSays
-  refused-text w n p a b h =
-      let e : readFault s (length ts) (length rs) ≡ pick (eqb (textFault s .number) 0) noFault (textFault s) = read-fault a b in
-      let r = refusal-says (pick (eqb (textFault s .number) 0) noFault (textFault s))
-      (caseValues (caseIn s)) n p (h ∙ ap (λ (f : Fault). settled f (caseValues (caseIn s))) e) in
-      go (eqb (textFault s .number) 0) (r .0) (r .1)
-    where
-      go : (b : Bool) → eqb (pick b noFault (textFault s) .number) 0 ≡ false
-          → refusedLine n p ≡ refusedLine (pick b noFault (textFault s) .number) (pick b noFault (textFault s) .place)
-          → refusedLine n p ≡ pick b (caseSays w (caseIn s)) (refusedLine (textFault s .number) (textFault s .place))
-      go true x y = absurd (false≢true (sym x))
-      go false x y = y
+    pub refused-text : (w : Wish) → refusedLine n p ≡ textSays w s
+    unfolding textSays
+    refused-text w =
+        rw (ne-eqb (textFault s .number) 0 (refused-fault .0)) (ap (λ (f : Fault). refusedLine (f .number) (f .place)) (refused-fault .1))
 
   -- ---- a case
   module _ (m p e n k : ℕ) (h : result (m ∷ p ∷ e ∷ n ∷ k ∷ []) ≡ readAnswer s ts rs) where
@@ -52,11 +42,7 @@ module _ (s ts rs : List ℕ) where
     settled-read = settled-result (readFault s (length ts) (length rs)) (caseValues (caseIn s)) _ (sym h)
 
     pub text-clear : textFault s .number ≡ 0
-    unfolding readFault
-    text-clear =
-        let t = next-clear (roomFault (maxTasks * taskWidth) (length ts)) _ (settled-read .0) in
-        let r = next-clear (roomFault (maxReleases * releaseWidth) (length rs)) _ (t .1) in
-        next-clear (textFault s) _ (r .1) .0
+    text-clear = read-clear s _ _ (settled-read .0) .text
 
     stands : Legal (caseIn s)
     stands = legal (caseIn s) (case-accepted s text-clear)

@@ -9,7 +9,7 @@ use lib.ListN.{length, take}
 use lib.Seq.{length-take-le}
 use Rattle.rules.specs.Limits.{maxTasks, maxReleases, taskWidth, releaseWidth}
 use Rattle.rules.specs.Case.{Case, caseOf}
-use Rattle.rules.specs.Refusals.{caseFault, Accepted}
+use Rattle.rules.specs.Refusals.{caseFault}
 use Rattle.rules.specs.Reader.{caseIn, lengthFault}
 use Rattle.rules.specs.Calls.{ReadPromise}
 use Rattle.rules.specs.declared.Fault.{Fault}
@@ -19,8 +19,10 @@ use Rattle.lines.specs.declared.Gathered.{Gathered}
 use Rattle.lines.specs.Held.{tableRoom, traceRoom, Whole}
 use Rattle.lines.specs.Gathers.{Gathers}
 use Rattle.legal.specs.Legal.{legal}
+use Rattle.legal.specs.Settled.{clear}
+use Rattle.texts.specs.Passing.{text-clear}
 use Rattle.reader.specs.Reads.{roomsFault, ReadsCase, PutsCase}
-use Rattle.reader.proofs.Answered.{text-long, text-line, text-case, text-clear, case-stands, enough-room, at-none, reads}
+use Rattle.reader.proofs.Answered.{text-long, text-line, text-case, enough-room, at-text, reads}
 use Rattle.reader.proofs.Clipped.{clip-fault, clip-none}
 
 -- what is kept in a room is as long as it says
@@ -38,8 +40,7 @@ pub reads-long : (s : List ℕ) (f : Fault) (h : Head) (table trace : List ℕ) 
     → ReadsCase s (record { fault = f; head = h; tasks = 0; releases = 0 }) table trace
 reads-long s f h table trace e q p o =
     record {
-      fault = λ _. text-long s f e q;
-      clear = λ z. absurd (q z);
+      fault = text-long s f e q;
       case = λ z. absurd (q z);
       tasks = record { long = p; within = omega arith; even = refl };
       releases = record { long = o; within = omega arith; even = refl };
@@ -50,8 +51,7 @@ module _ (s : List ℕ) (g : Gathered) (table trace : List ℕ) (short : lengthF
   pub reads-line : (g .fault .number ≡ 0 → ⊥) → ReadsCase s g table trace
   reads-line q =
       record {
-        fault = λ _. text-line s (g .fault) short (w .fault) q;
-        clear = λ z. absurd (q z);
+        fault = text-line s (g .fault) short (w .fault) q;
         case = λ z. absurd (q z);
         tasks = w .tasks;
         releases = w .releases;
@@ -62,12 +62,9 @@ module _ (s : List ℕ) (g : Gathered) (table trace : List ℕ) (short : lengthF
       → ReadsCase s (record { fault = f; head = g .head; tasks = g .tasks; releases = g .releases }) table trace
   reads-case f good e =
       let same : f ≡ caseFault (caseIn s) = e ∙ rw (sub-zero, sub-zero) (ap caseFault (sym (w .kept good)) ∙ clip-fault (caseIn s)) in
-      let stand = ap (λ (u : Fault). u .number) (sym (w .fault)) ∙ good in
-      let none : f .number ≡ 0 → caseFault (caseIn s) .number ≡ 0 = λ z. ap (λ (u : Fault). u .number) (sym same) ∙ z in
       record {
-        fault = λ q. text-case s short stand f same q;
-        clear = λ z. text-clear s short stand (none z);
-        case = λ z. sym (clip-none (caseIn s) (none z)) ∙ w .kept good;
+        fault = text-case s f short (clear _ _ (w .fault) good) same;
+        case = λ z. sym (clip-none (caseIn s) (clear _ _ same z)) ∙ w .kept good;
         tasks = w .tasks;
         releases = w .releases;
       }
@@ -77,9 +74,8 @@ module _ (s ts rs : List ℕ) (g : Gathered) (table trace : List ℕ) (room : ro
     (w : ReadsCase s g table trace) (good : g .fault .number ≡ 0) where
   -- its numbers are no more than a case may have
   few-numbers : (g .tasks ≤ maxTasks * taskWidth) × (g .releases ≤ maxReleases * releaseWidth)
-  unfolding Accepted
   few-numbers =
-      let l = legal (caseIn s) (case-stands s (w .clear good)) in
+      let l = legal (caseIn s) (text-clear s (clear _ _ (w .fault) good) .accepted) in
       let t : length (caseIn s .table) ≡ g .tasks = ap (λ (c : Case). length (c .table)) (w .case good) ∙
       kept-long _ _ (g .tasks) table (w .tasks) in
       let r : length (caseIn s .trace) ≡ g .releases = ap (λ (c : Case). length (c .trace)) (w .case good) ∙
@@ -97,5 +93,5 @@ module _ (s ts rs : List ℕ) (g : Gathered) (table trace : List ℕ) (room : ro
   pub all-read : (r : Taken) (ts′ rs′ : List ℕ) → PutsCase (fronts (g .head) (g .tasks) table (g .releases) trace) ts rs r ts′ rs′
       → ReadPromise s ts rs r ts′ rs′
   all-read r ts′ rs′ p =
-      reads s ts rs (fronts (g .head) (g .tasks) table (g .releases) trace) r ts′ rs′
-      (at-none s _ _ room (w .clear good)) (rw (sub-zero, sub-zero) (w .case good)) p
+      reads s ts rs (g .fault) (at-text s _ _ _ room (w .fault)) (fronts (g .head) (g .tasks) table (g .releases) trace) r ts′ rs′
+      good (rw (sub-zero, sub-zero) (w .case good)) p

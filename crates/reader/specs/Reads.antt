@@ -6,7 +6,7 @@ use mathlib.Core.List.{List, [], _∷_, _++_}
 use lib.ListN.{length, drop}
 use Rattle.rules.specs.Limits.{maxTasks, maxReleases, taskWidth, releaseWidth}
 use Rattle.rules.specs.Case.{Case}
-use Rattle.rules.specs.Refusals.{noFault, first, roomFault}
+use Rattle.rules.specs.Refusals.{first, roomFault}
 use Rattle.rules.specs.Answers.{result, takenAs}
 use Rattle.rules.specs.Reader.{textFault, caseIn, caseValues}
 use Rattle.rules.specs.declared.Fault.{Fault}
@@ -15,13 +15,15 @@ use Rattle.lines.specs.declared.Gathered.{Gathered}
 use Rattle.lines.specs.Held.{tableRoom, traceRoom, Whole, keptCase}
 
 -- what is at fault with the lent rooms
-unfoldable pub roomsFault : ℕ → ℕ → Fault
-roomsFault tasks releases = first (roomFault (maxTasks * taskWidth) tasks ∷ roomFault (maxReleases * releaseWidth) releases ∷ [])
+abbrev pub roomsTests : ℕ → ℕ → List Fault
+roomsTests tasks releases = roomFault (maxTasks * taskWidth) tasks ∷ roomFault (maxReleases * releaseWidth) releases ∷ []
 
--- the case of a text is read: something is at fault with the text, or its numbers stand at the front of the two rooms
+unfoldable pub roomsFault : ℕ → ℕ → Fault
+roomsFault tasks releases = first (roomsTests tasks releases)
+
+-- the case of a text is read: what is at fault with the text, and where nothing is its numbers stand at the front of the two rooms
 pub record ReadsCase (s : List ℕ) (g : Gathered) (table trace : List ℕ) : Type 0 where
-  pub fault : (g .fault .number ≡ 0 → ⊥) → g .fault ≡ textFault s
-  pub clear : g .fault .number ≡ 0 → textFault s ≡ noFault
+  pub fault : g .fault ≡ textFault s
   pub case : g .fault .number ≡ 0 → caseIn s ≡ keptCase (g .head) (g .tasks) table (g .releases) trace
   pub tasks : Whole tableRoom taskWidth (g .tasks) table
   pub releases : Whole traceRoom releaseWidth (g .releases) trace

@@ -6,20 +6,20 @@ use Prim.Native.Nat.{ℕ, _*_, _≤_}
 use native.Mathlib.Omega.{arith}
 use lib.Dec.{eqb, ltb}
 use lib.ListN.{getD}
-use borrow.Author.Tests.{le-leb}
 use Rattle.rules.specs.Words.{pick}
 use Rattle.rules.specs.declared.Fault.{Fault}
 use Rattle.rules.specs.Limits.{maxTasks, maxReleases, recordWidth}
 use Rattle.rules.specs.Case.{Case, taskCount, releaseCount}
-use Rattle.rules.specs.Refusals.{noFault, unless, orNext, procsFault, policyFault, tableFault, tasksFault, roomFault, slotFault, caseFault}
-use Rattle.rules.specs.Refusals.{countsFault, replayFault, runningFault, Accepted}
-use Rattle.rules.specs.Answers.{refusal, result, settled}
+use Rattle.rules.specs.Refusals.{faultOf, noFault, unless, orNext, roomFault, slotFault, caseFault, countsTests, countsFault, replayFault}
+use Rattle.rules.specs.Refusals.{runningFault, Accepted}
+use Rattle.rules.specs.Answers.{Answer, refusal, result, settled}
 use Rattle.rules.specs.Replay.{runningSet}
 use Rattle.rules.specs.Calls.{runningAnswer}
 use Rattle.rules.specs.Writer.{writeFault}
 use Rattle.rules.specs.Report.{refusedLine}
-use Rattle.legal.specs.Legal.{legal, next-clear}
-use Rattle.legal.specs.Settled.{settled-clear, valuesOf, no-refusal, settled-result}
+use Rattle.legal.specs.Legal.{legal, case-passes}
+use Rattle.legal.specs.Settled.{refuses, settled-clear, valuesOf, no-refusal, settled-result}
+use Rattle.texts.specs.Passing.{row-passes, room-passes}
 use Rattle.roundtrip.specs.CaseLines.{text-fits}
 use Rattle.roundtrip.specs.CallTrip.{write-clear}
 use Rattle.prints.specs.Lines.{runningLine}
@@ -33,45 +33,31 @@ never-refused f vs n p e h = no-refusal n p vs (h ∙ settled-clear f vs e)
 pub values-are : (f : Fault) (vs ws : List ℕ) → result ws ≡ settled f vs → ws ≡ vs
 values-are f vs ws h = sym (settled-result f vs ws (sym h) .1)
 
--- a refusal comes of the fault that it names
-pub refusal-says : (f : Fault) (vs : List ℕ) (n p : ℕ) → refusal n p ≡ settled f vs
-    → (eqb (f .number) 0 ≡ false) × (refusedLine n p ≡ refusedLine (f .number) (f .place))
-unfolding settled
-refusal-says f vs n p h = go (eqb (f .number) 0) refl h
-  where
-    go : (b : Bool) → eqb (f .number) 0 ≡ b → refusal n p ≡ pick b (result vs) (refusal (f .number) (f .place))
-        → (eqb (f .number) 0 ≡ false) × (refusedLine n p ≡ refusedLine (f .number) (f .place))
-    go true q e = absurd (no-refusal n p vs e)
-    go false q e = (q, ap refusalText e)
+-- a refusal is that of its fault
+abbrev faultIn : Answer → Fault
+faultIn (refusal n p) = faultOf n p
+faultIn (result vs) = noFault
+
+pub refused-by : (f : Fault) (vs : List ℕ) (n p : ℕ) → refusal n p ≡ settled f vs → (f .number ≡ 0 → ⊥) × (faultOf n p ≡ f)
+refused-by f vs n p h =
+    let some : f .number ≡ 0 → ⊥ = λ z. never-refused f vs n p z h in
+    (some, ap faultIn (h ∙ sym (refuses f f refl vs some)))
 
 -- ---- the rooms are long enough
 pub replay-fits : (c : Case) → Accepted c → replayFault c (maxReleases * recordWidth) .number ≡ 0
-unfolding replayFault Accepted roomFault orNext
-replay-fits c h =
-    let g : releaseCount (c .trace) * recordWidth ≤ maxReleases * recordWidth = omega (arith, legal c h .releases-few) in
-    rw (h, le-leb (releaseCount (c .trace) * recordWidth) (maxReleases * recordWidth) g)
+unfolding replayFault Accepted
+replay-fits c h = row-passes (caseFault c ∷ roomFault (releaseCount (c .trace) * recordWidth) _ ∷ [])
+    (h, (room-passes _ _ (omega (arith, legal c h .releases-few)), tt))
 
 pub write-fits : (c : Case) (room : ℕ) → Accepted c → printRoom ≤ room → writeFault c room .number ≡ 0
 write-fits c room h p = write-clear c room h (omega (arith, text-fits c h, p))
 
-table-clear : (c : Case) → Accepted c → (procsFault (c .procs) .number ≡ 0) × (tableFault (c .table) .number ≡ 0)
-    × (tasksFault (c .table) .number ≡ 0)
-unfolding Accepted caseFault
-table-clear c e =
-    let f1 = next-clear (procsFault (c .procs)) _ e in
-    let f2 = next-clear (policyFault (c .policy)) _ (f1 .1) in
-    let f3 = next-clear (tableFault (c .table)) _ (f2 .1) in
-    let f4 = next-clear (tasksFault (c .table)) _ (f3 .1) in
-    (f1 .0, f3 .0, f4 .0)
-
 pub counts-fits : (c : Case) → Accepted c → countsFault (c .procs) (c .table) maxTasks .number ≡ 0
-unfolding countsFault roomFault orNext
+unfolding countsFault
 counts-fits c h =
-    let t = table-clear c h in
-    let a : procsFault (c .procs) .number ≡ 0 = t .0 in
-    let b : tableFault (c .table) .number ≡ 0 = t .1 in
-    let d : tasksFault (c .table) .number ≡ 0 = t .2 in
-    rw (a, b, d, le-leb (taskCount (c .table)) maxTasks (legal c h .tasks-few))
+    let p = case-passes c h in
+    row-passes (countsTests (c .procs) (c .table) maxTasks)
+    (p .by-procs, (p .by-table, (p .by-tasks, (room-passes _ _ (legal c h .tasks-few), tt))))
 
 -- ---- the running set: refused where the slot is beyond the end
 slot-fault : (c : Case) (s : ℕ) → Accepted c → runningFault c s ≡ unless (ltb s (c .end)) 15 0

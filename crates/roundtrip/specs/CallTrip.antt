@@ -6,13 +6,11 @@ use mathlib.Core.List.{List, [], _∷_, _++_}
 use Prim.Native.Nat.{ℕ, _+_, _*_, _≤_}
 use native.Mathlib.Omega.{arith}
 use lib.ListN.{length, getD, take, drop}
-use borrow.Author.Tests.{le-leb}
-use Rattle.rules.specs.declared.Fault.{Fault}
 use Rattle.rules.specs.declared.Taken.{Taken}
 use Rattle.rules.specs.declared.Written.{Written}
 use Rattle.rules.specs.Limits.{maxTasks, maxReleases, maxText, taskWidth, releaseWidth}
 use Rattle.rules.specs.Case.{Case, caseOf, taskCount, releaseCount}
-use Rattle.rules.specs.Refusals.{orNext, roomFault, caseFault, Accepted}
+use Rattle.rules.specs.Refusals.{roomFault, caseFault, Accepted}
 use Rattle.rules.specs.Answers.{result, takenAs, writtenAs}
 use Rattle.rules.specs.Calls.{ReadPromise, WritePromise}
 use Rattle.rules.specs.Reader.{caseIn, textFault, readFault, caseValues, readAnswer, readTasks, readReleases}
@@ -20,6 +18,7 @@ use Rattle.rules.specs.Writer.{caseText, writeFault, writeAnswer, writeBytes}
 use Rattle.lists.specs.Lists.{take-first}
 use Rattle.legal.specs.Legal.{next-clear, Legal, legal}
 use Rattle.legal.specs.Settled.{settled-clear, kept-new, settled-result}
+use Rattle.texts.specs.Passing.{row-passes, room-passes, read-clear, read-roomy}
 use Rattle.roundtrip.specs.CaseLines.{text-fits}
 use Rattle.roundtrip.specs.RoundTrip.{case-written, no-fault-written, withPolicy, text-read, case-accepted}
 
@@ -55,8 +54,10 @@ read-as s tasks releases h w =
       tasks-after = a;
       releases-after = b;
       in-hand = ap₂ (λ ts rs. caseOf (c .procs) (c .policy) ts (c .end) rs)
-          (ap (take (taskCount (c .table) * 3)) a ∙ take-first (taskCount (c .table) * 3) (c .table) _ (omega (arith, w .threes)))
-          (ap (take (releaseCount (c .trace) * 2)) b ∙ take-first (releaseCount (c .trace) * 2) (c .trace) _ (omega (arith, w .twos)));
+          (ap (take (taskCount (c .table) * taskWidth)) a ∙
+          take-first (taskCount (c .table) * taskWidth) (c .table) _ (omega (arith, w .threes)))
+          (ap (take (releaseCount (c .trace) * releaseWidth)) b ∙
+          take-first (releaseCount (c .trace) * releaseWidth) (c .trace) _ (omega (arith, w .twos)));
     }
 
 written-as : (c : Case) (room : List ℕ) → writeFault c (length room) .number ≡ 0 → WrittenAs c room (caseText c)
@@ -67,19 +68,9 @@ written-as c room h = record {
       kept-new (writeFault c (length room)) _ _ h;
 }
 
-read-clear : (s tasks releases : List ℕ) → textFault s .number ≡ 0 → maxTasks * taskWidth ≤ length tasks
-    → maxReleases * releaseWidth ≤ length releases
-    → readFault s (length tasks) (length releases) .number ≡ 0
-unfolding readFault roomFault orNext
-read-clear s tasks releases h p q = rw (
-  le-leb (maxTasks * taskWidth) (length tasks) p,
-  le-leb (maxReleases * releaseWidth) (length releases) q,
-  h,
-)
-
 pub write-clear : (c : Case) (room : ℕ) → Accepted c → length (caseText c) ≤ room → writeFault c room .number ≡ 0
-unfolding writeFault roomFault orNext Accepted
-write-clear c room h p = rw (h, le-leb (length (caseText c)) room p)
+unfolding writeFault Accepted
+write-clear c room h p = row-passes (caseFault c ∷ roomFault _ room ∷ []) (h, (room-passes _ room p, tt))
 
 -- ---- both, by their definitions
 read-written : (c : Case) (room : List ℕ) (n : ℕ) (tasks releases : List ℕ)
@@ -95,8 +86,7 @@ read-written c room n tasks releases h p q =
     ∙ take-first n (caseText c) _ (sym (ap (λ l. getD l 0 0) (a .1))) in
     let same = case-written c e in
     rw text (subst (ReadAs (caseText c) tasks releases) same
-    (read-as (caseText c) tasks releases (read-clear (caseText c) tasks releases (ap (λ (f : Fault). f .number) (no-fault-written c e)) p q)
-    (rw same (legal c e))))
+    (read-as (caseText c) tasks releases (rw (read-roomy (caseText c) _ _ p q, no-fault-written c e)) (rw same (legal c e))))
 
 -- what a text with its policy line takes up: a room of 60,000 bytes is always enough
 pub with-policy-fits : (s : List ℕ) → textFault s .number ≡ 0 → length (withPolicy s) ≤ maxText
@@ -106,12 +96,10 @@ write-read : (s tasks releases vs room : List ℕ)
     → readAnswer s tasks releases ≡ result vs
     → length (withPolicy s) ≤ length room
     → WrittenAs (inHand vs (readTasks s tasks releases) (readReleases s tasks releases)) room (withPolicy s)
-unfolding readAnswer readFault
+unfolding readAnswer
 write-read s tasks releases vs room h p =
     let a = settled-result (readFault s (length tasks) (length releases)) (caseValues (caseIn s)) vs h in
-    let t = next-clear (roomFault (maxTasks * taskWidth) (length tasks)) _ (a .0) in
-    let r = next-clear (roomFault (maxReleases * releaseWidth) (length releases)) _ (t .1) in
-    let clear : textFault s .number ≡ 0 = next-clear (textFault s) _ (r .1) .0 in
+    let clear = read-clear s _ _ (a .0) .text in
     let e = case-accepted s clear in
     let text = text-read s clear in
     let hand : inHand vs (readTasks s tasks releases) (readReleases s tasks releases) ≡ caseIn s =

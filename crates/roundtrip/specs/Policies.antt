@@ -7,7 +7,6 @@ use mathlib.Core.List.{List, [], _∷_}
 use native.Mathlib.Omega.{arith}
 use lib.Dec.{eqb}
 use lib.ListN.{length}
-use borrow.Author.Tests.{le-leb}
 use Rattle.rules.specs.Words.{pick}
 use Rattle.rules.specs.Case.{Case}
 use Rattle.rules.specs.Refusals.{noFault, policyFault}
@@ -15,6 +14,7 @@ use Rattle.rules.specs.Text.{newlineByte, has, lineOf, afterLine, fieldOf, afte
 use Rattle.rules.specs.Policies.{edf, maxPolicy}
 use Rattle.rules.specs.Reader.{withNumber, oneNumber, twoNumbers, threeNumbers, policyIn, wordKind, fieldsSay, lineSays, linesIn, linesOf}
 use Rattle.rules.specs.Reader.{policyWhenAbsent, noCase, withLine, withLines, caseWithDefault, caseIn}
+use Rattle.legal.specs.Passing.{policy-none}
 use Rattle.texts.specs.PolicyNames.{name-read}
 use Rattle.rules.specs.declared.Num.{Num}
 use Rattle.rules.specs.declared.Num.the-variants as Num·
@@ -96,5 +96,4 @@ policy-known s = lines-known (length s) s (noCase policyWhenAbsent) (omega arith
 
 -- so the test that gives 14 passes
 pub never-14 : (s : List ℕ) → policyFault (caseIn s .policy) ≡ noFault
-unfolding policyFault
-never-14 s = rw (le-leb (caseIn s .policy) maxPolicy (policy-known s))
+never-14 s = policy-none (caseIn s .policy) (policy-known s)

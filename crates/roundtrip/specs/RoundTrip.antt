@@ -8,18 +8,17 @@ use Prim.Native.Nat.{ℕ, _+_, _^_}
 use native.Mathlib.Omega.{arith}
 use lib.Dec.{eqb}
 use lib.ListN.{length}
-use borrow.Author.Tests.{le-leb}
 use Rattle.rules.specs.Words.{pick}
 use Rattle.rules.specs.declared.Line.{Line}
 use Rattle.rules.specs.declared.Line.the-variants.{Procs, Policy}
-use Rattle.rules.specs.Limits.{maxText}
 use Rattle.rules.specs.Case.{Case, caseOf}
-use Rattle.rules.specs.Refusals.{noFault, orNext, caseFault, Accepted}
+use Rattle.rules.specs.Refusals.{noFault, Accepted}
 use Rattle.rules.specs.Text.{newlineByte, lineOf, afterLine, fieldOf}
-use Rattle.rules.specs.Reader.{wordKind, linesOf, kindOf, caseOrder, linesFault, policyWhenAbsent, noCase, withLine, withLines}
-use Rattle.rules.specs.Reader.{caseWithDefault, caseIn, lengthFault, textFault}
+use Rattle.rules.specs.Reader.{wordKind, linesOf, kindOf, policyWhenAbsent, noCase, withLine, withLines}
+use Rattle.rules.specs.Reader.{caseWithDefault, caseIn, textFault}
 use Rattle.rules.specs.Writer.{policyText, caseText}
-use Rattle.legal.specs.Legal.{next-clear, legal}
+use Rattle.legal.specs.Legal.{legal}
+use Rattle.texts.specs.Passing.{text-clear, text-none}
 use Rattle.roundtrip.specs.LineTrip.{wordOf, fieldsIn, lineBytes, body-kind}
 use Rattle.roundtrip.specs.Lines.{textOf, textOf-cons, lineOf-text, afterLine-text, lines-written, lines-read}
 use Rattle.roundtrip.specs.Orders.{all-said, body-tail, Ordered, ordered-of}
@@ -37,9 +36,12 @@ case-written c e = ap (withLines (noCase policyWhenAbsent)) (written-lines c e) 
 
 -- the reader finds no fault in it
 pub no-fault-written : (c : Case) → Accepted c → textFault (caseText c) ≡ noFault
-unfolding textFault lengthFault orNext Accepted
 no-fault-written c e =
-    rw (le-leb (length (caseText c)) maxText (text-fits c e), written-lines c e, lines-clear c (legal c e), case-written c e, e)
+    text-none (caseText c) (record {
+      short = text-fits c e;
+      lines = rw (written-lines c e, lines-clear c (legal c e));
+      accepted = rw (case-written c e) e;
+    })
 
 -- ---- writing what was read
 -- whether the second line of a text is a policy line
@@ -79,21 +81,15 @@ text-ordered ls o = go (o .whole)
         rw e (held policyWhenAbsent ∙ rw (o .body .whole)
         (sym (policy-put-in (Procs (o .procs)) (o .body .task) (o .body .others) (o .body .is-task))))
 
--- a text in which the reader finds no fault: no line is at fault, and its case is accepted
-lines-no-fault : (s : List ℕ) → textFault s .number ≡ 0 → linesFault caseOrder 0 1 (linesOf s) .number ≡ 0
-unfolding textFault
-lines-no-fault s h = next-clear (linesFault caseOrder 0 1 (linesOf s)) _ (next-clear (lengthFault s) _ h .1) .0
-
+-- the case of a text in which the reader finds no fault is accepted
 pub case-accepted : (s : List ℕ) → textFault s .number ≡ 0 → Accepted (caseIn s)
-unfolding textFault Accepted
-case-accepted s h = next-clear (caseFault (caseIn s)) _
-    (next-clear (linesFault caseOrder 0 1 (linesOf s)) _ (next-clear (lengthFault s) _ h .1) .1) .0
+case-accepted s h = text-clear s h .accepted
 
 -- the same text, but for the policy line where it was absent
 pub text-read : (s : List ℕ) → textFault s .number ≡ 0 → caseText (caseIn s) ≡ withPolicy s
 unfolding caseWithDefault caseIn
 text-read s h =
-    let e = lines-no-fault s h in
+    let e = text-clear s h .lines in
     text-ordered (linesOf s) (ordered-of (linesOf s) e) ∙ ap withPolicy (lines-read s (all-said 0 1 (linesOf s) e))
 
 -- where the policy line was there, just the same text

@@ -3,3 +3,4 @@ pub mod Fields
 pub mod LinesOf
 pub mod WordLists
 pub mod PolicyNames
+pub mod Passing

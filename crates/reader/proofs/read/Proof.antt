@@ -36,8 +36,8 @@ returns : tie.Need-returns
 returns c =
     let asked = c .before .before .before in
     let a = entry asked .args in
-    refuses (a .text .now) (a .tasks .now) (a .releases .now) _ _
-    (at-rooms (a .text .now) _ _ _ (asked .rooms-fault .ensures) (c .before .if1 .taken)) (c .before .if1 .taken)
+    let some = c .before .if1 .taken in
+    refuses (a .text .now) (a .tasks .now) (a .releases .now) _ (at-rooms _ _ _ _ (asked .rooms-fault .ensures) some) _ some
     (c .refused .ensures)
 
 slice-aggregate-read-case : tie.Need-slice-aggregate-read-case
@@ -56,9 +56,8 @@ returns-2 : tie.Need-returns-2
 returns-2 c =
     let text = done (c .before .before) in
     let a = entry (begun text .before .before) .args in
-    let fault = text .read-case .ensures .fault (c .before .if2 .taken) in
-    refuses (a .text .now) (a .tasks .now) (a .releases .now) _ _
-    (at-text (a .text .now) _ _ _ (enough (begun text)) fault (c .before .if2 .taken)) (c .before .if2 .taken)
+    refuses (a .text .now) (a .tasks .now) (a .releases .now) _
+    (at-text _ _ _ _ (enough (begun text)) (text .read-case .ensures .fault)) _ (c .before .if2 .taken)
     (c .refused2 .ensures)
 
 sub-put-case : tie.Need-sub-put-case

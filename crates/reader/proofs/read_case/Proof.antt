@@ -2,7 +2,7 @@
 use mathlib.Core.Path.{_≡_, sym, ap, _∙_}
 use Rattle.rules.specs.declared.Fault.{Fault}
 use Rattle.rules.specs.Reader.{lengthFault}
-use Rattle.reader.proofs.Answered.{short-text}
+use Rattle.texts.specs.Passing.{length-clear}
 use Rattle.reader.proofs.Kept.{reads-long, reads-line, reads-case}
 use borrow.Author.Needs.{needs}
 use Rattle.reader.proofs.read_case.Statement.{statement}
@@ -39,7 +39,7 @@ returns c =
 gather-requires : tie.Need-gather-requires
 gather-requires c κs =
     let start = c .before .before in
-    (short-text _ (short start), (entry (start .before .before) .pre .0, entry (start .before .before) .pre .1))
+    (length-clear _ (short start), (entry (start .before .before) .pre .0, entry (start .before .before) .pre .1))
 
 same-length : tie.Need-same-length
 same-length c = search needs

@@ -1,0 +1,78 @@
+-- What it means to pass the tests of the reader (rules, Reader: `lengthFault`, `textFault`, `readFault`), as legal's Passing says it of the
+-- tests on numbers. The reader's proof, the round trip and what is answered to a text cite these laws.
+use mathlib.Core.Path.{_≡_, ap, _∙_}
+use mathlib.Core.List.{List, [], _∷_}
+use Prim.Native.Nat.{ℕ, _*_, _≤_}
+use native.Mathlib.Omega.{arith}
+use lib.ListN.{length}
+use borrow.Author.Tests.{leb-true, le-leb}
+use Rattle.rules.specs.declared.Fault.{Fault}
+use Rattle.rules.specs.Limits.{maxTasks, maxReleases, maxText, taskWidth, releaseWidth}
+use Rattle.rules.specs.Refusals.{noFault, orNext, first, roomFault, caseFault, Accepted}
+use Rattle.rules.specs.Reader.{linesOf, caseOrder, linesFault, caseIn, lengthFault, textFault, readFault}
+use Rattle.legal.specs.Firsts.{unless-clear, AllClear, row-clear, row-none, row-join, next-none}
+use Rattle.legal.specs.Passing.{room-clear, room-none}
+
+-- a row of tests, and the room's, that find nothing
+pub row-passes : (fs : List Fault) → AllClear fs → first fs .number ≡ 0
+row-passes fs w = ap (λ (f : Fault). f .number) (row-none fs w)
+
+pub room-passes : (need room : ℕ) → need ≤ room → roomFault need room .number ≡ 0
+room-passes need room h = ap (λ (f : Fault). f .number) (room-none need room h)
+
+-- ---- 1: the length of a text, both ways
+pub length-clear : (s : List ℕ) → lengthFault s .number ≡ 0 → length s ≤ maxText
+unfolding lengthFault
+length-clear s e = leb-true (length s) maxText (unless-clear _ 1 0 (omega arith) e)
+
+length-passes : (s : List ℕ) → length s ≤ maxText → lengthFault s .number ≡ 0
+unfolding lengthFault
+length-passes s h = rw (le-leb (length s) maxText h)
+
+-- ---- a text: 1, its lines, its case; both ways
+abbrev textTests : List ℕ → List Fault
+textTests s = lengthFault s ∷ linesFault caseOrder 0 1 (linesOf s) ∷ caseFault (caseIn s) ∷ []
+
+pub record TextClear (s : List ℕ) : Type 0 where
+  pub short : length s ≤ maxText
+  pub lines : linesFault caseOrder 0 1 (linesOf s) .number ≡ 0
+  pub accepted : Accepted (caseIn s)
+
+pub text-clear : (s : List ℕ) → textFault s .number ≡ 0 → TextClear s
+unfolding textFault Accepted
+text-clear s e =
+    let w = row-clear (textTests s) e in
+    record { short = length-clear s (w .0); lines = w .1 .0; accepted = w .1 .1 .0 }
+
+pub text-none : (s : List ℕ) → TextClear s → textFault s ≡ noFault
+unfolding textFault Accepted
+text-none s w =
+    row-none (textTests s) (length-passes s (w .short), (w .lines, (w .accepted, tt)))
+
+-- a row that is asked last is the rest of a longer one
+whole : (s : List ℕ) → orNext (textFault s) noFault ≡ textFault s
+unfolding textFault
+whole s = row-join (textTests s) []
+
+-- ---- the reader: its two rooms, then the text; both ways
+pub record ReadClear (s : List ℕ) (tasks releases : ℕ) : Type 0 where
+  pub tasks-room : maxTasks * taskWidth ≤ tasks
+  pub releases-room : maxReleases * releaseWidth ≤ releases
+  pub text : textFault s .number ≡ 0
+
+pub read-clear : (s : List ℕ) (t r : ℕ) → readFault s t r .number ≡ 0 → ReadClear s t r
+unfolding readFault
+read-clear s t r e =
+    let w = row-clear (roomFault (maxTasks * taskWidth) t ∷ roomFault (maxReleases * releaseWidth) r ∷ textFault s ∷ []) e in
+    record {
+      tasks-room = room-clear (maxTasks * taskWidth) t (w .0);
+      releases-room = room-clear (maxReleases * releaseWidth) r (w .1 .0);
+      text = w .1 .1 .0;
+    }
+
+-- with room enough only the text is asked
+pub read-roomy : (s : List ℕ) (t r : ℕ) → maxTasks * taskWidth ≤ t → maxReleases * releaseWidth ≤ r → readFault s t r ≡ textFault s
+unfolding readFault
+read-roomy s t r p q =
+    next-none (roomFault (maxTasks * taskWidth) t) _ (room-passes _ t p) ∙
+    next-none (roomFault (maxReleases * releaseWidth) r) _ (room-passes _ r q) ∙ whole s
