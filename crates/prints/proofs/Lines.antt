@@ -18,8 +18,9 @@ use Rattle.rules.specs.Report.{totalLine}
 use Rattle.texts.specs.Digits.{at-most-ten}
 use Rattle.puts.specs.Laid.{Laid}
 use Rattle.puts.specs.Fields.{fieldsText, numberFields, numberLine, wordOf}
+use Rattle.puts.proofs.Chosen.{word-short}
 use Rattle.puts.proofs.Lines.{line-length, numbers-room, fields-then}
-use Rattle.prints.specs.Lines.{lineRoom, outcomeRoom, outcomeFields, runText, totalText, halved, memberAt, membersOf}
+use Rattle.prints.specs.Lines.{lineRoom, Printed, outcomeRoom, outcomeFields, runText, totalText, halved, memberAt, membersOf}
 
 -- ---- the lines of a case by the numbers that stand in them
 pub run-is : (c : Case) → runLine c ≡ runText (c .policy) (c .procs) (taskCount (c .table)) (c .end)
@@ -31,8 +32,18 @@ unfolding totalLine totalText
 total-is c = refl
 
 -- ---- no line is too long
-pub line-short : (word : ℕ) (vs : List ℕ) → length (wordOf word) ≤ 7 → length vs ≤ 34 → length (numberLine spaceByte word vs) ≤ lineRoom
-line-short word vs h l = omega (arith, line-length spaceByte (wordOf word) (map digitsOf vs), numbers-room spaceByte vs)
+line-short : (word : ℕ) (vs : List ℕ) → length vs ≤ 34 → length (numberLine spaceByte word vs) ≤ lineRoom
+line-short word vs h =
+    omega (arith, line-length spaceByte (wordOf word) (map digitsOf vs), word-short word, numbers-room spaceByte vs)
+
+-- so it fits where a line has room, and is printed once it is laid
+module _ (word : ℕ) (vs : List ℕ) where
+  pub line-fits : {n : ℕ} → length vs ≤ 34 → lineRoom ≤ n → length (numberLine spaceByte word vs) ≤ n
+  line-fits h r = omega (arith, line-short word vs h)
+
+  pub line-printed : {old new : List ℕ} {n : ℕ} → length vs ≤ 34 → Laid 0 (numberLine spaceByte word vs) old new n
+      → Printed lineRoom (numberLine spaceByte word vs) old new n
+  line-printed h p = record { laid = p; short = omega (arith, p .behind, line-short word vs h) }
 
 pub verdict-room : (v : ℕ) → length (verdictName v) ≤ 6
 unfolding verdictName

@@ -59,8 +59,9 @@ module _ (s : TaskSet) where
   bit-at : (i : ℕ) → i < maxTasks → halved i (setNumber s) % 2 ≡ bit (s i)
   unfolding setNumber
   bit-at i h =
-      let e : maxTasks ≡ i + suc (31 - i) = omega arith in
-      ap (λ (n : ℕ). halved i n % 2) (sum-from maxTasks ∙ ap (from 0) e) ∙ rw (halved-from i (suc (31 - i))) (lowest i (31 - i))
+      let e : maxTasks ≡ i + suc (maxTasks - suc i) = omega arith in
+      ap (λ (n : ℕ). halved i n % 2) (sum-from maxTasks ∙ ap (from 0) e) ∙
+      rw (halved-from i (suc (maxTasks - suc i))) (lowest i (maxTasks - suc i))
 
   pub members-are : (n : ℕ) → n ≤ maxTasks → membersOf (setNumber s) n ≡ tasksIn s n
   unfolding membersOf tasksIn

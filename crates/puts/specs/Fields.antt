@@ -2,8 +2,7 @@
 -- text", and "Which form each place takes" for the choice by number). Lines of the case text and printed lines are both made of them.
 use Prim.Native.Nat.{ℕ}
 use mathlib.Core.List.{List, [], _∷_, _++_, map}
-use lib.Dec.{eqb}
-use Rattle.rules.specs.Words.{pick}
+use lib.ListN.{getD}
 use Rattle.rules.specs.Text.{digitsOf, procsWord, policyWord, taskWord, endWord, releaseWord}
 use Rattle.rules.specs.Writer.{lineText}
 use Rattle.rules.specs.Report.{runWord, jobWord, totalWord, refusedWord}
@@ -24,16 +23,17 @@ countWord = 99 ∷ 111 ∷ 117 ∷ 110 ∷ 116 ∷ []
 abbrev pub runningWord : List ℕ
 runningWord = 114 ∷ 117 ∷ 110 ∷ 110 ∷ 105 ∷ 110 ∷ 103 ∷ []
 
--- the word of a line by its number: 1 to 5 in the case text, as `wordKind` of rules has them, 6 to 11 in what is printed
+-- the words of lines in their order: 1 to 5 in the case text, as `wordKind` of rules has them, 6 to 10 in what is printed
+abbrev pub lineWords : List (List ℕ)
+lineWords =
+    runWord ∷
+    procsWord ∷
+    policyWord ∷
+    taskWord ∷ endWord ∷ releaseWord ∷ jobWord ∷ totalWord ∷ refusedWord ∷ countWord ∷ runningWord ∷ []
+
+-- the word of a line by its number; it is `run` for 11 and every other
 unfoldable pub wordOf : ℕ → List ℕ
-wordOf w =
-    pick (eqb w 1) procsWord
-    (pick (eqb w 2) policyWord
-    (pick (eqb w 3) taskWord
-    (pick (eqb w 4) endWord
-    (pick (eqb w 5) releaseWord
-    (pick (eqb w 6) jobWord
-    (pick (eqb w 7) totalWord (pick (eqb w 8) refusedWord (pick (eqb w 9) countWord (pick (eqb w 10) runningWord runWord)))))))))
+wordOf w = getD lineWords w runWord
 
 -- a line of a word and numbers
 abbrev pub numberLine : ℕ → ℕ → List ℕ → List ℕ

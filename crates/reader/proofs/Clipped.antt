@@ -8,6 +8,7 @@ use native.Mathlib.Omega.{arith}
 use lib.ListN.{length, take}
 use lib.Seq.{take-all, length-take-le}
 use borrow.Author.Tests.{lt-leb}
+use Rattle.rules.specs.Limits.{maxTasks, maxReleases}
 use Rattle.rules.specs.Case.{Case, caseOf, taskCount, releaseCount}
 use Rattle.rules.specs.Refusals.{faultOf, orNext, tableFault, traceFault, caseFault, Accepted}
 use Rattle.rules.specs.declared.Fault.{Fault}
@@ -17,11 +18,11 @@ use Rattle.lines.specs.Held.{tableRoom, traceRoom, clip}
 -- with more tasks, or releases, than may stand nothing after that is asked
 full-table : (ts : List ℕ) (f : Fault) → tableRoom ≤ length ts → orNext (tableFault ts) f ≡ faultOf 5 0
 unfolding orNext tableFault
-full-table ts f h = let g : 32 < taskCount ts = omega arith in rw (lt-leb (taskCount ts) 32 g, and-false)
+full-table ts f h = let g : maxTasks < taskCount ts = omega arith in rw (lt-leb (taskCount ts) maxTasks g, and-false)
 
 full-trace : (rs : List ℕ) (f : Fault) → traceRoom ≤ length rs → orNext (traceFault rs) f ≡ faultOf 12 0
 unfolding orNext traceFault
-full-trace rs f h = let g : 2000 < releaseCount rs = omega arith in rw (lt-leb (releaseCount rs) 2000 g, and-false)
+full-trace rs f h = let g : maxReleases < releaseCount rs = omega arith in rw (lt-leb (releaseCount rs) maxReleases g, and-false)
 
 abbrev with-table : Case → List ℕ → List ℕ → Case
 with-table c ts rs = caseOf (c .procs) (c .policy) ts (c .end) rs

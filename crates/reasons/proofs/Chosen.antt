@@ -6,6 +6,7 @@ use native.Mathlib.Omega.{arith}
 use lib.ListN.{length, getD, length-append, List·getD-eq-default}
 use Rattle.texts.specs.Digits.{at-most-ten}
 use Rattle.puts.specs.Laid.{Laid}
+use Rattle.puts.proofs.Chosen.{Outside, above}
 use Rattle.reasons.specs.Reasons.{signBytes, words, reasons, plainReason, reasonOf, reasonRoom, Said}
 
 -- ---- how long
@@ -74,18 +75,6 @@ pub chosen : {n : ℕ} {old new : List ℕ} {end : ℕ} (p k : ℕ) → n ≡ k
     → Said (reasonOf n p) old new end
 unfolding reasonOf
 chosen p k e l = rw e (said k p refl l)
-
--- a number that is none of 1 to k, as a match says it in its last arm
-abbrev pub Outside : ℕ → ℕ → Type 0
-Outside zero n = Unit {0}
-Outside (suc k) n = Outside k n × (n ≡ suc k → ⊥)
-
-above : (k n : ℕ) → 1 ≤ n → Outside k n → suc k ≤ n
-above zero n h o = h
-above (suc k) n h o = next (o .1) (above k n h (o .0))
-  where
-    next : {k n : ℕ} → (n ≡ suc k → ⊥) → suc k ≤ n → suc (suc k) ≤ n
-    next f b = omega (arith, f)
 
 -- a number with no words of its own
 beyond : (n p : ℕ) → Outside 15 n → plainReason n p ≡ reasonOf n p

@@ -28,15 +28,16 @@ noRecord = recordOf 0 0 0
 
 -- the three numbers of record p
 numbers-at : (rs : List Record) (p : ℕ) (rest : List ℕ) → p < length rs
-    → recordOf (getD (numbers rs ++ rest) (p * 3) 0) (getD (numbers rs ++ rest) (p * 3 + 1) 0) (getD (numbers rs ++ rest) (p * 3 + 2) 0)
+    → recordOf (getD (numbers rs ++ rest) (p * recordWidth) 0) (getD (numbers rs ++ rest) (p * recordWidth + 1) 0)
+    (getD (numbers rs ++ rest) (p * recordWidth + 2) 0)
     ≡ getD rs p noRecord
 unfolding numbers
 numbers-at [] p rest h = absurd (not-suc-le-zero h)
 numbers-at (x ∷ rs) zero rest h = refl
 numbers-at (x ∷ rs) (suc p) rest h =
-    let e2 : suc p * 3 + 2 ≡ suc (suc (suc (p * 3 + 2))) = omega arith in
-    let e1 : suc p * 3 + 1 ≡ suc (suc (suc (p * 3 + 1))) = omega arith in
-    let e : suc p * 3 ≡ suc (suc (suc (p * 3))) = omega arith in
+    let e2 : suc p * recordWidth + 2 ≡ suc (suc (suc (p * recordWidth + 2))) = omega arith in
+    let e1 : suc p * recordWidth + 1 ≡ suc (suc (suc (p * recordWidth + 1))) = omega arith in
+    let e : suc p * recordWidth ≡ suc (suc (suc (p * recordWidth))) = omega arith in
     rw (e2, e1, e) (numbers-at rs p rest (omega arith))
 
 module _ (c : Case) (ok : Accepted c) where

@@ -8,7 +8,7 @@ use lib.ListN.{length}
 use Rattle.rules.specs.Words.{tab}
 use Rattle.rules.specs.declared.Line.{Line}
 use Rattle.rules.specs.declared.Line.the-variants.{Procs, Policy, End}
-use Rattle.rules.specs.Limits.{maxText}
+use Rattle.rules.specs.Limits.{maxText, taskWidth, releaseWidth}
 use Rattle.rules.specs.Case.{Case, caseOf, taskCount, releaseCount}
 use Rattle.rules.specs.Refusals.{noFault, Accepted}
 use Rattle.rules.specs.Reader.{caseOrder, linesFault, noCase, withLine, withLines}
@@ -45,10 +45,10 @@ case-text c =
 
 -- ---- the lines of a case hold the case
 rows-kind : (ts : List ℕ) → All (Kind 3) (rowLines ts)
-rows-kind ts = kinds-tab 3 3 rowAt rows-list ts 0 (taskCount ts)
+rows-kind ts = kinds-tab 3 taskWidth rowAt rows-list ts 0 (taskCount ts)
 
 releases-kind : (rs : List ℕ) → All (Kind 5) (releaseLines rs)
-releases-kind rs = kinds-tab 5 2 releaseAt releases-list rs 0 (releaseCount rs)
+releases-kind rs = kinds-tab 5 releaseWidth releaseAt releases-list rs 0 (releaseCount rs)
 
 pub lines-hold : (p : ℕ) (c : Case) → Legal c → withLines (noCase p) (caseLines c) ≡ c
 unfolding withLines withLine caseLines
@@ -56,8 +56,8 @@ lines-hold p c w =
     lines-taken (c .procs) (c .policy) (rowLines (c .table)) (c .end) (releaseLines (c .trace)) (rows-kind (c .table))
     (releases-kind (c .trace))
     ∙ ap₂ (λ ts rs. caseOf (c .procs) (c .policy) ts (c .end) rs)
-    (listed-back 3 3 rowAt rows-list (taskCount (c .table)) (c .table) (omega (arith, w .threes)))
-    (listed-back 5 2 releaseAt releases-list (releaseCount (c .trace)) (c .trace) (omega (arith, w .twos)))
+    (listed-back 3 taskWidth rowAt rows-list (taskCount (c .table)) (c .table) (omega (arith, w .threes)))
+    (listed-back 5 releaseWidth releaseAt releases-list (releaseCount (c .trace)) (c .trace) (omega (arith, w .twos)))
 
 -- and lines in order are the lines of the case that they hold
 pub lines-held : (m p : ℕ) (ls : List Line) → Tail ls → caseLines (withLines (caseOf m p [] 0 []) ls) ≡ Procs m ∷ Policy p ∷ ls
@@ -65,12 +65,12 @@ unfolding caseLines
 lines-held m p ls t =
     let ts = allListed (t .rows) in
     let rs = allListed (t .releases) in
-    let k : taskCount ts ≡ length (t .rows) = omega (arith, listed-long 3 3 rowAt rows-list (t .rows) (t .are-rows)) in
+    let k : taskCount ts ≡ length (t .rows) = omega (arith, listed-long 3 taskWidth rowAt rows-list (t .rows) (t .are-rows)) in
     let n : releaseCount rs ≡ length (t .releases) =
-    omega (arith, listed-long 5 2 releaseAt releases-list (t .releases) (t .are-releases)) in
-    let a : rowLines ts ≡ t .rows = ap (tab (rowAt ts) 0) k ∙ lines-back 3 3 rowAt rows-list (t .rows) (t .are-rows) in
+    omega (arith, listed-long 5 releaseWidth releaseAt releases-list (t .releases) (t .are-releases)) in
+    let a : rowLines ts ≡ t .rows = ap (tab (rowAt ts) 0) k ∙ lines-back 3 taskWidth rowAt rows-list (t .rows) (t .are-rows) in
     let b : releaseLines rs ≡ t .releases = ap (tab (releaseAt rs) 0) n
-    ∙ lines-back 5 2 releaseAt releases-list (t .releases) (t .are-releases) in
+    ∙ lines-back 5 releaseWidth releaseAt releases-list (t .releases) (t .are-releases) in
     rw (t .whole)
     (ap caseLines (lines-taken m p (t .rows) (t .end) (t .releases) (t .are-rows) (t .are-releases))
     ∙ ap₂ (λ xs ys. Procs m ∷ Policy p ∷ (xs ++ (End (t .end) ∷ ys))) a b)
@@ -120,7 +120,7 @@ lines-body c w = go (taskCount (c .table)) (w .tasks-some)
         rows = tab (rowAt (c .table)) 1 n;
         end = c .end;
         releases = releaseLines (c .trace);
-        are-rows = kinds-tab 3 3 rowAt rows-list (c .table) 1 n;
+        are-rows = kinds-tab 3 taskWidth rowAt rows-list (c .table) 1 n;
         are-releases = releases-kind (c .trace);
         whole = refl;
       };

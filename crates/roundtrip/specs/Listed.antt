@@ -12,6 +12,7 @@ use lib.Seq.{drop-cons, getD-append-add}
 use Rattle.rules.specs.Words.{pick, tab}
 use Rattle.rules.specs.declared.Line.{Line}
 use Rattle.rules.specs.declared.Line.the-variants.{Bad, Procs, Policy, Row, End, Release}
+use Rattle.rules.specs.Limits.{taskWidth, releaseWidth}
 use Rattle.rules.specs.Case.{Case, caseOf, period, execution, deadline, timeOf, nameOf}
 use Rattle.rules.specs.Reader.{kindOf, withLine, withLines}
 use Rattle.texts.specs.Fields.{All}
@@ -93,34 +94,37 @@ past-seam-at xs ys i j k p q = rw (← q, ← p) (getD-append-add xs ys j 0)
 next-at : (xs : List ℕ) (i j : ℕ) → i < length xs → suc i ≡ j → drop i xs ≡ getD xs i 0 ∷ drop j xs
 next-at xs i j h e = rw (← e) (drop-cons xs i 0 h)
 
-pub rows-list : Lists 3 3 rowAt
+pub rows-list : Lists 3 taskWidth rowAt
 unfolding rowAt listed
 rows-list = record {
   kind = λ xs i. refl;
   wide = λ l h. ap (λ z. length (listed z)) (is-row l h .3);
   there = λ xs i h.
       rw (
-        next-at xs (i * 3) (i * 3 + 1) (omega arith) (omega arith),
-        next-at xs (i * 3 + 1) (i * 3 + 2) (omega arith) (omega arith),
-        next-at xs (i * 3 + 2) (i * 3 + 3) (omega arith) (omega arith),
+        next-at xs (i * taskWidth) (i * taskWidth + 1) (omega arith) (omega arith),
+        next-at xs (i * taskWidth + 1) (i * taskWidth + 2) (omega arith) (omega arith),
+        next-at xs (i * taskWidth + 2) (i * taskWidth + taskWidth) (omega arith) (omega arith),
       );
   back = λ xs l ys i h n.
       let (T, C, D, e) = is-row l h in
-      let at = past-seam-at xs (T ∷ C ∷ D ∷ ys) (i * 3) in
-      rw e (λ p. Row (at 0 (i * 3) n (omega arith) p) (at 1 (i * 3 + 1) n refl p) (at 2 (i * 3 + 2) n refl p));
+      let at = past-seam-at xs (T ∷ C ∷ D ∷ ys) (i * taskWidth) in
+      rw e (λ p. Row (at 0 (i * taskWidth) n (omega arith) p) (at 1 (i * taskWidth + 1) n refl p) (at 2 (i * taskWidth + 2) n refl p));
 }
 
-pub releases-list : Lists 5 2 releaseAt
+pub releases-list : Lists 5 releaseWidth releaseAt
 unfolding releaseAt listed
 releases-list = record {
   kind = λ xs j. refl;
   wide = λ l h. ap (λ z. length (listed z)) (is-release l h .2);
   there = λ xs j h.
-      rw (next-at xs (j * 2) (j * 2 + 1) (omega arith) (omega arith), next-at xs (j * 2 + 1) (j * 2 + 2) (omega arith) (omega arith));
+      rw (
+        next-at xs (j * releaseWidth) (j * releaseWidth + 1) (omega arith) (omega arith),
+        next-at xs (j * releaseWidth + 1) (j * releaseWidth + releaseWidth) (omega arith) (omega arith),
+      );
   back = λ xs l ys j h n.
       let (t, m, e) = is-release l h in
-      let at = past-seam-at xs (t ∷ m ∷ ys) (j * 2) in
-      rw e (λ p. Release (at 0 (j * 2) n (omega arith) p) (at 1 (j * 2 + 1) n refl p));
+      let at = past-seam-at xs (t ∷ m ∷ ys) (j * releaseWidth) in
+      rw e (λ p. Release (at 0 (j * releaseWidth) n (omega arith) p) (at 1 (j * releaseWidth + 1) n refl p));
 }
 
 module _ (k w : ℕ) (at : List ℕ → ℕ → Line) (lists : Lists k w at) where

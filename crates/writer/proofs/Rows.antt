@@ -8,6 +8,7 @@ use native.Mathlib.Omega.{arith}
 use lib.ListN.{length, take, drop, getD, length-append}
 use lib.Seq.{drop-cons, take-add}
 use Rattle.rules.specs.Words.{tab}
+use Rattle.rules.specs.Limits.{taskWidth, releaseWidth}
 use Rattle.rules.specs.Case.{taskCount, releaseCount}
 use Rattle.rules.specs.Text.{digitsOf}
 use Rattle.rules.specs.Writer.{joinedText, taskText, releaseText}
@@ -84,28 +85,35 @@ module _ (word width : ℕ) (vs : List ℕ) where
 part-cons : (xs : List ℕ) (n k : ℕ) → k < length xs → take (suc n) (drop k xs) ≡ getD xs k 0 ∷ take n (drop (suc k) xs)
 part-cons xs n k h = rw (drop-cons xs k 0 h)
 
-pub task-row : (ts : List ℕ) (i : ℕ) → i < taskCount ts → taskText ts i ≡ rowText 3 3 ts i
+pub task-row : (ts : List ℕ) (i : ℕ) → i < taskCount ts → taskText ts i ≡ rowText 3 taskWidth ts i
 unfolding taskText rowText wordOf
 task-row ts i h =
-    let a : i * 3 < length ts = omega arith in
-    let b : suc (i * 3) < length ts = omega arith in
-    let c : suc (suc (i * 3)) < length ts = omega arith in
-    let one : i * 3 + 1 ≡ suc (i * 3) = omega arith in
-    let two : i * 3 + 2 ≡ suc (suc (i * 3)) = omega arith in
-    rw (part-cons ts 2 (i * 3) a, part-cons ts 1 (suc (i * 3)) b, part-cons ts 0 (suc (suc (i * 3))) c, one, two) refl
+    let a : i * taskWidth < length ts = omega arith in
+    let b : suc (i * taskWidth) < length ts = omega arith in
+    let c : suc (suc (i * taskWidth)) < length ts = omega arith in
+    let one : i * taskWidth + 1 ≡ suc (i * taskWidth) = omega arith in
+    let two : i * taskWidth + 2 ≡ suc (suc (i * taskWidth)) = omega arith in
+    rw (
+      part-cons ts 2 (i * taskWidth) a,
+      part-cons ts 1 (suc (i * taskWidth)) b,
+      part-cons ts 0 (suc (suc (i * taskWidth))) c,
+      one,
+      two,
+    ) refl
 
-pub release-row : (rs : List ℕ) (j : ℕ) → j < releaseCount rs → releaseText rs j ≡ rowText 5 2 rs j
+pub release-row : (rs : List ℕ) (j : ℕ) → j < releaseCount rs → releaseText rs j ≡ rowText 5 releaseWidth rs j
 unfolding releaseText rowText wordOf
 release-row rs j h =
-    let a : j * 2 < length rs = omega arith in
-    let b : suc (j * 2) < length rs = omega arith in
-    let one : j * 2 + 1 ≡ suc (j * 2) = omega arith in
-    rw (part-cons rs 1 (j * 2) a, part-cons rs 0 (suc (j * 2)) b, one) refl
+    let a : j * releaseWidth < length rs = omega arith in
+    let b : suc (j * releaseWidth) < length rs = omega arith in
+    let one : j * releaseWidth + 1 ≡ suc (j * releaseWidth) = omega arith in
+    rw (part-cons rs 1 (j * releaseWidth) a, part-cons rs 0 (suc (j * releaseWidth)) b, one) refl
 
-pub task-rows : (ts : List ℕ) → joinedText (tab (taskText ts) 0 (taskCount ts)) ≡ rowsText 3 3 ts (taskCount ts)
+pub task-rows : (ts : List ℕ) → joinedText (tab (taskText ts) 0 (taskCount ts)) ≡ rowsText 3 taskWidth ts (taskCount ts)
 unfolding rowsText
-task-rows ts = ap joinedText (tab-cong (taskText ts) (rowText 3 3 ts) 0 (taskCount ts) (λ i p q. task-row ts i (omega arith)))
+task-rows ts = ap joinedText (tab-cong (taskText ts) (rowText 3 taskWidth ts) 0 (taskCount ts) (λ i p q. task-row ts i (omega arith)))
 
-pub release-rows : (rs : List ℕ) → joinedText (tab (releaseText rs) 0 (releaseCount rs)) ≡ rowsText 5 2 rs (releaseCount rs)
+pub release-rows : (rs : List ℕ) → joinedText (tab (releaseText rs) 0 (releaseCount rs)) ≡ rowsText 5 releaseWidth rs (releaseCount rs)
 unfolding rowsText
-release-rows rs = ap joinedText (tab-cong (releaseText rs) (rowText 5 2 rs) 0 (releaseCount rs) (λ j p q. release-row rs j (omega arith)))
+release-rows rs = ap joinedText
+    (tab-cong (releaseText rs) (rowText 5 releaseWidth rs) 0 (releaseCount rs) (λ j p q. release-row rs j (omega arith)))

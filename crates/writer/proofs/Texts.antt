@@ -6,6 +6,7 @@ use native.Mathlib.Omega.{arith}
 use lib.ListN.{length, take, length-append}
 use lib.Seq.{take-all}
 use Rattle.rules.specs.Case.{caseOf, taskCount, releaseCount}
+use Rattle.rules.specs.Limits.{taskWidth, releaseWidth}
 use Rattle.rules.specs.Text.{digitsOf}
 use Rattle.rules.specs.Policies.{policyName}
 use Rattle.rules.specs.Writer.{lineText, moreFields, procsText, policyText, endText, caseText}
@@ -14,7 +15,7 @@ use Rattle.writer.specs.Rows.{rowsText, headText, tailText, WholeRows}
 use Rattle.writer.proofs.Rows.{rows-length, task-rows, release-rows}
 
 pub case-parts : (m p : ℕ) (ts : List ℕ) (e : ℕ) (rs : List ℕ)
-    → headText m p ++ (rowsText 3 3 ts (taskCount ts) ++ tailText e rs) ≡ caseText (caseOf m p ts e rs)
+    → headText m p ++ (rowsText 3 taskWidth ts (taskCount ts) ++ tailText e rs) ≡ caseText (caseOf m p ts e rs)
 unfolding caseText headText tailText
 case-parts m p ts e rs = rw (task-rows ts, release-rows rs) (append-assoc (procsText m) (policyText p) _)
 
@@ -43,11 +44,11 @@ case-length m p ts e rs w =
     sym (ap length (case-parts m p ts e rs)) ∙
     omega (
       arith,
-      length-append (headText m p) (rowsText 3 3 ts (taskCount ts) ++ tailText e rs),
-      length-append (rowsText 3 3 ts (taskCount ts)) (tailText e rs),
-      length-append (endText e) (rowsText 5 2 rs (releaseCount rs)),
+      length-append (headText m p) (rowsText 3 taskWidth ts (taskCount ts) ++ tailText e rs),
+      length-append (rowsText 3 taskWidth ts (taskCount ts)) (tailText e rs),
+      length-append (endText e) (rowsText 5 releaseWidth rs (releaseCount rs)),
       length-append (digitsOf e) (10 ∷ []),
       head-length m p,
-      all-rows 3 3 4 (taskCount ts) ts refl (w .tasks),
-      all-rows 5 2 7 (releaseCount rs) rs refl (w .releases),
+      all-rows 3 taskWidth 4 (taskCount ts) ts refl (w .tasks),
+      all-rows 5 releaseWidth 7 (releaseCount rs) rs refl (w .releases),
     )

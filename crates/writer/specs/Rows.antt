@@ -5,6 +5,7 @@ use mathlib.Core.Path.{_≡_}
 use mathlib.Core.List.{List, _++_}
 use lib.ListN.{length, take, drop}
 use Rattle.rules.specs.Words.{tab}
+use Rattle.rules.specs.Limits.{maxTasks, maxReleases, taskWidth, releaseWidth}
 use Rattle.rules.specs.Case.{taskCount, releaseCount}
 use Rattle.rules.specs.Text.{tabByte}
 use Rattle.rules.specs.Writer.{joinedText, procsText, policyText, endText}
@@ -24,11 +25,11 @@ headText m p = procsText m ++ policyText p
 
 -- the end line and the lines of the releases
 unfoldable pub tailText : ℕ → List ℕ → List ℕ
-tailText e rs = endText e ++ rowsText 5 2 rs (releaseCount rs)
+tailText e rs = endText e ++ rowsText 5 releaseWidth rs (releaseCount rs)
 
 -- a table and a trace of whole rows, and of no more than a case may have
 pub record WholeRows (ts rs : List ℕ) : Type 0 where
-  pub tasks : length ts ≡ taskCount ts * 3
-  pub releases : length rs ≡ releaseCount rs * 2
-  pub few : taskCount ts ≤ 32
-  pub few′ : releaseCount rs ≤ 2000
+  pub tasks : length ts ≡ taskCount ts * taskWidth
+  pub releases : length rs ≡ releaseCount rs * releaseWidth
+  pub few : taskCount ts ≤ maxTasks
+  pub few′ : releaseCount rs ≤ maxReleases

@@ -9,6 +9,7 @@ use Rattle.rules.specs.Writer.{lineText, moreFields}
 use Rattle.rules.specs.Report.{spaceByte}
 use Rattle.puts.specs.Fields.{wordOf}
 use Rattle.puts.proofs.Puts.{laid-byte, laid-then, laid-length}
+use Rattle.puts.proofs.Chosen.{word-short}
 use Rattle.puts.proofs.Lines.{fields-then, numbers-room}
 use Rattle.texts.specs.PolicyNames.{name-short}
 use Rattle.prints.specs.Lines.{lineRoom, runText}
@@ -16,15 +17,13 @@ use Rattle.prints.proofs.put_run.Statement.{statement}
 use Rattle.prints.proofs.put_run.Tie as tie
 
 put-word-requires : tie.Need-put-word-requires
-unfolding wordOf
-put-word-requires c κs = omega arith
+put-word-requires c κs = omega (arith, word-short 11)
 
 -- how far the line has come, and that the room is what it was
 worded : (c : tie.After-put-word) → (c .put-word .result ≤ 7) × (lineRoom ≤ length (c .put-word .last .0))
-unfolding wordOf
 worded c =
     let put = c .put-word in
-    omega (arith, put .ensures .behind, put .kept .0)
+    omega (arith, put .ensures .behind, put .kept .0, word-short 11)
 
 put-policy-requires : tie.Need-put-policy-requires
 put-policy-requires c κs =

@@ -9,20 +9,15 @@ use Rattle.rules.specs.Limits.{maxTasks}
 use Rattle.rules.specs.Report.{spaceByte}
 use Rattle.puts.specs.Fields.{numberLine, wordOf}
 use Rattle.prints.specs.Lines.{lineRoom, membersOf, runningLine}
-use Rattle.prints.proofs.Lines.{line-short, members-few, slot-first}
+use Rattle.prints.proofs.Lines.{line-fits, line-printed, members-few, slot-first}
 use Rattle.prints.proofs.put_running.Statement.{statement}
 use Rattle.prints.proofs.put_running.Tie as tie
 
--- the numbers of the line, and that it is not too long
+-- the numbers of the line
 numbers : (c : tie.After-put-members)
     → take (c .put-members .result - 0) (c .put-members .last .0)
     ≡ c .before .before .before .args .slot ∷ membersOf (c .before .before .before .args .set) maxTasks
 numbers c = slot-first _ _ _ _ _ (members-few (c .before .before .before .args .set) maxTasks) (c .put-members .ensures)
-
-short : (c : tie.Start) → length (numberLine spaceByte 10 (c .args .slot ∷ membersOf (c .args .set) maxTasks)) ≤ lineRoom
-unfolding wordOf
-short c = line-short 10 (c .args .slot ∷ membersOf (c .args .set) maxTasks) (omega arith)
-    (omega (arith, members-few (c .args .set) maxTasks))
 
 slice-aggregate-put-members : tie.Need-slice-aggregate-put-members
 slice-aggregate-put-members c = refl
@@ -44,7 +39,9 @@ part-put-line-end c =
 put-line-requires : tie.Need-put-line-requires
 put-line-requires c κs =
     let start = c .before .before .before .before .before .before .before in
-    rw (numbers (c .before .before .before .before)) (omega (arith, short start, start .pre))
+    rw (numbers (c .before .before .before .before))
+    (line-fits 10 (start .args .slot ∷ membersOf (start .args .set) maxTasks) (omega (arith, members-few (start .args .set) maxTasks))
+    (start .pre))
 
 same-length : tie.Need-same-length
 same-length c = search needs
@@ -54,8 +51,8 @@ unfolding wordOf runningLine
 returns c =
     let put = c .before .before .put-line in
     let start = c .before .before .before .before .before .before .before .before .before .before in
-    let laid = rw (numbers (c .before .before .before .before .before .before .before)) at (put .ensures) in
-    record { laid = laid; short = omega (arith, laid .behind, short start) }
+    line-printed 10 (start .args .slot ∷ membersOf (start .args .set) maxTasks) (omega (arith, members-few (start .args .set) maxTasks))
+    (rw (numbers (c .before .before .before .before .before .before .before)) at (put .ensures))
 
 pub put-running-spec : {M : Type 1} → statement M
 put-running-spec =

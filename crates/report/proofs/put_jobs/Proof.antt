@@ -1,8 +1,9 @@
 -- `report::put_jobs` meets its contract: the lines of the releases passed are laid, each in the part from the present end on.
-use Prim.Native.Nat.{_+_, _-_, _/_, _≤_}
+use Prim.Native.Nat.{_+_, _-_, _≤_}
 use mathlib.Core.Path.{_≡_}
 use native.Mathlib.Omega.{arith}
 use lib.ListN.{length}
+use Rattle.rules.specs.Case.{releaseCount}
 use Rattle.puts.proofs.Puts.{laid-length, part-length}
 use Rattle.prints.specs.Lines.{jobRoom}
 use Rattle.report.specs.Cases.{jobText, Listed}
@@ -11,7 +12,7 @@ use Rattle.report.proofs.put_jobs.Statement.{statement}
 use Rattle.report.proofs.put_jobs.Tie as tie
 
 abbrev Inv-loop : tie.InvT-loop
-Inv-loop out₀ at table trace records n end₀ j₀ out end j = (j ≤ length trace / 2)
+Inv-loop out₀ at table trace records n end₀ j₀ out end j = (j ≤ releaseCount trace)
     × Listed (jobText table trace records) jobRoom at j out₀ out end
 
 abbrev μ-loop : tie.MeasureT-loop
@@ -64,7 +65,7 @@ returns : tie.Need-returns Inv-loop μ-loop
 returns c =
     let start = c .before .before .before .before .before .before in
     let l = c .before .loop in
-    let e : l .j ≡ length (start .args .trace .now) / 2 = omega (arith, l .inv .0, c .loop-test .left) in
+    let e : l .j ≡ releaseCount (start .args .trace .now) = omega (arith, l .inv .0, c .loop-test .left) in
     rw e at (l .inv .1)
 
 pub put-jobs-spec : {M : Type 1} → statement M

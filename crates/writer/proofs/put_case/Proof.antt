@@ -5,6 +5,7 @@ use mathlib.Core.List.{_++_}
 use native.Mathlib.Omega.{arith}
 use lib.ListN.{length, length-append}
 use Rattle.rules.specs.Case.{taskCount}
+use Rattle.rules.specs.Limits.{taskWidth}
 use Rattle.puts.proofs.Puts.{laid-then}
 use Rattle.writer.specs.Rows.{rowsText, headText, tailText}
 use Rattle.writer.proofs.Texts.{case-parts}
@@ -13,11 +14,11 @@ use Rattle.writer.proofs.put_case.Statement.{statement}
 use Rattle.writer.proofs.put_case.Tie as tie
 
 -- the three parts have room
-parts : (c : tie.Start) → length (headText (c .args .procs) (c .args .policy)) + length (rowsText 3 3 (c .args .table .now)
+parts : (c : tie.Start) → length (headText (c .args .procs) (c .args .policy)) + length (rowsText 3 taskWidth (c .args .table .now)
     (taskCount (c .args .table .now))) + length (tailText (c .args .end) (c .args .trace .now)) ≤ length (c .args .out .now)
 parts c =
     let a = c .args in
-    let tasks = rowsText 3 3 (a .table .now) (taskCount (a .table .now)) in
+    let tasks = rowsText 3 taskWidth (a .table .now) (taskCount (a .table .now)) in
     let tail = tailText (a .end) (a .trace .now) in
     omega (
       arith,

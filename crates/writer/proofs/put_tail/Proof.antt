@@ -5,6 +5,7 @@ use native.Mathlib.Omega.{arith}
 use lib.ListN.{length, length-append}
 use borrow.Rule.Slice.PartMut.{putMid}
 use Rattle.rules.specs.Case.{releaseCount}
+use Rattle.rules.specs.Limits.{releaseWidth}
 use Rattle.rules.specs.Writer.{endText}
 use Rattle.puts.specs.Laid.{Laid}
 use Rattle.puts.specs.Fields.{numberLine, wordOf}
@@ -15,10 +16,12 @@ use Rattle.writer.proofs.put_tail.Statement.{statement}
 use Rattle.writer.proofs.put_tail.Tie as tie
 
 -- the end line and the releases have room
-parts : (c : tie.Start) → c .args .at + length (numberLine 9 4 (c .args .end ∷ [])) + length (rowsText 5 2 (c .args .trace .now)
+parts : (c : tie.Start) → c .args .at + length (numberLine 9 4 (c .args .end ∷ [])) + length (rowsText 5 releaseWidth (c .args .trace .now)
     (releaseCount (c .args .trace .now))) ≤ length (c .args .out .now)
 unfolding tailText endText wordOf
-parts c = omega (arith, length-append (endText (c .args .end)) (rowsText 5 2 (c .args .trace .now) (releaseCount (c .args .trace .now))))
+parts c =
+    let trace = c .args .trace .now in
+    omega (arith, length-append (endText (c .args .end)) (rowsText 5 releaseWidth trace (releaseCount trace)))
 
 sub-put-line : tie.Need-sub-put-line
 sub-put-line c = search needs

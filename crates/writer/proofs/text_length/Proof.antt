@@ -1,6 +1,7 @@
 -- `writer::text_length` meets its contract: the sum of what the lines take.
 use Prim.Native.Nat.{_*_, _≤_}
 use native.Mathlib.Omega.{arith}
+use Rattle.rules.specs.Limits.{maxTasks, maxReleases, taskWidth, releaseWidth}
 use Rattle.texts.specs.Digits.{at-most-ten}
 use Rattle.puts.proofs.Lines.{numbers-room}
 use Rattle.texts.specs.PolicyNames.{nameRoom, name-short}
@@ -19,12 +20,12 @@ first c = omega (arith, c .width .ensures, at-most-ten (c .before .before .befor
 head : (c : tie.After-policy-width) → c .policy-width .result ≤ nameRoom
 head c = omega (arith, c .policy-width .ensures, name-short (c .before .before .before .before .args .policy))
 
-tasks : (c : tie.After-numbers-width) → c .numbers-width .result ≤ 11 * 96
+tasks : (c : tie.After-numbers-width) → c .numbers-width .result ≤ 11 * (maxTasks * taskWidth)
 tasks c =
     let a = c .before .before .before .before .before in
     omega (arith, c .numbers-width .ensures, numbers-room 9 (a .args .table .now), a .pre .tasks, a .pre .few)
 
-releases : (c : tie.After-numbers-width2) → c .numbers-width2 .result ≤ 11 * 4000
+releases : (c : tie.After-numbers-width2) → c .numbers-width2 .result ≤ 11 * (maxReleases * releaseWidth)
 releases c =
     let a = c .before .before .before .before .before .before in
     omega (arith, c .numbers-width2 .ensures, numbers-room 9 (a .args .trace .now), a .pre .releases, a .pre .few′)
