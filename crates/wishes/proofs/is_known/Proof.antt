@@ -1,12 +1,44 @@
--- `wishes::is_known` meets its contract.
-use mathlib.Core.Path.{sym, _∙_}
+-- `wishes::is_known` meets its contract: past a test that fails, the word is known where the rest of the row knows it.
+use mathlib.Core.Path.{_≡_, sym, _∙_}
+use mathlib.Core.Bool.{Bool, true}
+use mathlib.Core.List.{List}
+use Prim.Native.Nat.{ℕ}
+use Rattle.rules.specs.Words.{pick}
+use Rattle.rules.specs.Text.{same, numberIn}
 use Rattle.reasons.specs.Reasons.{signBytes, words}
-use Rattle.wishes.specs.Asks.{isNumber, isAsked, isKnown}
+use Rattle.wishes.specs.Asks.{wordAsks, isNumber, isAsked, isKnown}
 use Rattle.wishes.proofs.Wishes.{some-asked}
 use borrow.Author.Needs.{needs}
 use Rattle.wishes.proofs.is_known.Statement.{statement}
 use Rattle.wishes.proofs.is_known.Tie as tie
 
+-- ---- the row of tests from its second on
+abbrev third : List ℕ → Bool
+third w = pick (isNumber (numberIn w)) true (isAsked (wordAsks w))
+
+abbrev second : List ℕ → Bool
+second w = pick (same w (words "slot")) true (third w)
+
+-- ---- past each test
+abbrev word : tie.Else1 → List ℕ
+word c = c .before .before .before .args .word .now
+
+past-first : (c : tie.Else1) → isKnown (word c) ≡ second (word c)
+unfolding isKnown
+past-first c = rw (sym (c .before .is-quiet .ensures) ∙ c .if1 .left)
+
+past-second : (c : tie.Else2) → isKnown (word (c .before .before .before)) ≡ third (word (c .before .before .before))
+unfolding words signBytes
+past-second c = past-first (c .before .before .before) ∙ rw (sym (c .before .same-bytes .ensures) ∙ c .if2 .left)
+
+past-third : (c : tie.After-alone) → isKnown (word (c .before .before .before .before .before .before .before)) ≡ isAsked (c .alone .result)
+unfolding isNumber
+past-third c =
+    let told = c .before in
+    past-second (told .before .before .before) ∙
+    rw (sym (told .before .before .number .ensures) ∙ told .enum-told .given .1, ← c .alone .ensures)
+
+-- ---- the tests, and what is returned where one holds
 is-quiet-requires : tie.Need-is-quiet-requires
 is-quiet-requires c κs = search needs
 
@@ -21,11 +53,8 @@ same-bytes-requires : tie.Need-same-bytes-requires
 same-bytes-requires c κs = search needs
 
 returns-2 : tie.Need-returns-2
-unfolding isKnown words signBytes
-returns-2 c =
-    let is-quiet = c .before .before .before .before .is-quiet in
-    let if1 = c .before .before .before .if1 in
-    rw (sym (is-quiet .ensures) ∙ if1 .left, sym (c .before .same-bytes .ensures) ∙ c .if2 .taken)
+unfolding words signBytes
+returns-2 c = sym (past-first (c .before .before .before) ∙ rw (sym (c .before .same-bytes .ensures) ∙ c .if2 .taken))
 
 number-requires : tie.Need-number-requires
 number-requires c κs = search needs
@@ -37,17 +66,9 @@ enum-told-2 : tie.Need-enum-told-2
 enum-told-2 c = search needs
 
 returns-3 : tie.Need-returns-3
-unfolding isKnown isNumber words signBytes
+unfolding isNumber
 returns-3 c =
-    let is-quiet = c .before .before .before .before .before .before .before .is-quiet in
-    let if1 = c .before .before .before .before .before .before .if1 in
-    let same-bytes = c .before .before .before .before .same-bytes in
-    let if2 = c .before .before .before .if2 in
-    rw (
-      sym (is-quiet .ensures) ∙ if1 .left,
-      sym (same-bytes .ensures) ∙ if2 .left,
-      sym (c .before .before .number .ensures) ∙ c .enum-told2 .given .1,
-    )
+    sym (past-second (c .before .before .before) ∙ rw (sym (c .before .before .number .ensures) ∙ c .enum-told2 .given .1))
 
 alone-requires : tie.Need-alone-requires
 alone-requires c κs = search needs
@@ -56,36 +77,11 @@ enum-told-3 : tie.Need-enum-told-3
 enum-told-3 c = search needs
 
 returns-4 : tie.Need-returns-4
-unfolding isKnown isNumber words signBytes
-returns-4 c =
-    let is-quiet = c .before .before .before .before .before .before .before .before .before .is-quiet in
-    let if1 = c .before .before .before .before .before .before .before .before .if1 in
-    let same-bytes = c .before .before .before .before .before .before .same-bytes in
-    let if2 = c .before .before .before .before .before .if2 in
-    let number = c .before .before .before .before .number in
-    rw (
-      sym (is-quiet .ensures) ∙ if1 .left,
-      sym (same-bytes .ensures) ∙ if2 .left,
-      sym (number .ensures) ∙ c .before .before .enum-told .given .1,
-      ← c .before .alone .ensures,
-      some-asked (c .before .alone .result) (c .match2 .keys2),
-    )
+returns-4 c = sym (past-third (c .before) ∙ some-asked (c .before .alone .result) (c .match2 .keys2))
 
 returns-5 : tie.Need-returns-5
-unfolding isKnown isNumber isAsked words signBytes
-returns-5 c =
-    let is-quiet = c .before .before .before .before .before .before .before .before .before .before .is-quiet in
-    let if1 = c .before .before .before .before .before .before .before .before .before .if1 in
-    let same-bytes = c .before .before .before .before .before .before .before .same-bytes in
-    let if2 = c .before .before .before .before .before .before .if2 in
-    let number = c .before .before .before .before .before .number in
-    let enum-told-here = c .before .before .before .enum-told in
-    rw (
-      sym (is-quiet .ensures) ∙ if1 .left,
-      sym (same-bytes .ensures) ∙ if2 .left,
-      sym (number .ensures) ∙ enum-told-here .given .1,
-      sym (c .before .before .alone .ensures) ∙ c .enum-told3 .given .1,
-    )
+unfolding isAsked
+returns-5 c = sym (past-third (c .before .before) ∙ rw (c .enum-told3 .given .1))
 
 pub is-known-spec : {M : Type 1} → statement M
 is-known-spec =
