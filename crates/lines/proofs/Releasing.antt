@@ -1,24 +1,22 @@
 -- The release lines: between two of them, what is at fault with them all is what is at fault with those unread, and their trace is what is
 -- kept with the trace of those unread. And what they add to a case is their trace.
 use mathlib.Core.Path.{_≡_, refl, sym, ap, _∙_}
-use mathlib.Core.Bool.{not}
 use mathlib.Core.List.{List, [], _∷_, _++_, append-assoc, append-nil}
 use Prim.Native.Nat.{ℕ, suc, _+_, _≤_, _<_}
 use native.Mathlib.Omega.{arith}
-use lib.Dec.{eqb}
 use lib.ListN.{length, take, drop, length-take}
 use lib.Seq.{take-all}
 use borrow.Author.Tests.{eqb-true}
 use Rattle.rules.specs.Limits.{releaseWidth}
 use Rattle.rules.specs.Case.{Case, caseOf}
 use Rattle.rules.specs.Text.{afterLine}
-use Rattle.rules.specs.Refusals.{noFault, unless}
+use Rattle.rules.specs.Refusals.{noFault}
 use Rattle.rules.specs.Reader.{kindOf, linesOf, mayFollow, mayStop, caseOrder, linesFault, withLine, withLines}
 use Rattle.rules.specs.declared.Fault.{Fault}
 use Rattle.rules.specs.declared.Line.{Line}
 use Rattle.rules.specs.declared.Line.the-variants.{Bad, Procs, Policy, Row, End, Release}
-use Rattle.legal.specs.Firsts.{unless-clear, next-clear}
 use Rattle.texts.specs.LinesOf.{end-release}
+use Rattle.texts.specs.Passing.{lines-clear}
 use Rattle.lines.specs.Held.{traceRoom, lineFault, nextSays, releaseNumbers, traceOf, Whole, Added}
 use Rattle.lines.specs.Gathers.{Releases}
 use Rattle.lines.proofs.Faults.{line-follows, fault-stop}
@@ -104,14 +102,12 @@ line-said c (Release t n) e = refl
 
 lines-said : (c : Case) (n : ℕ) (ls : List Line) → linesFault caseOrder 5 n ls .number ≡ 0
     → withLines c ls ≡ with-trace c (c .trace ++ traceOf ls)
-unfolding linesFault mayFollow withLines traceOf
+unfolding mayFollow withLines traceOf
 lines-said c n [] e = ap (with-trace c) (sym (append-nil (c .trace)))
 lines-said c n (l ∷ ls) e =
-    let f = next-clear (unless (not (eqb (kindOf l) 0)) 2 n) _ e in
-    let g = next-clear (unless (mayFollow 5 (kindOf l)) 3 n) _ (f .1) in
-    let h = next-clear (linesFault caseOrder (kindOf l) (suc n) ls) noFault (g .1) in
-    let k : kindOf l ≡ 5 = eqb-true (kindOf l) 5 (unless-clear _ 3 n (omega arith) (g .0)) in
-    lines-said (withLine c l) (suc n) ls (rw k at (h .0)) ∙
+    let w = lines-clear caseOrder 5 n l ls e in
+    let k : kindOf l ≡ 5 = eqb-true (kindOf l) 5 (w .line .follows) in
+    lines-said (withLine c l) (suc n) ls (rw k at (w .rest)) ∙
     ap (λ (d : Case). with-trace d (d .trace ++ traceOf ls)) (line-said c l k) ∙
     ap (with-trace c) (append-assoc (c .trace) (releaseNumbers l) (traceOf ls))
 

@@ -2,13 +2,14 @@
 use mathlib.Core.Path.{_≡_, refl, sym, ap, _∙_}
 use mathlib.Core.Bool.{Bool, true, false}
 use mathlib.Core.List.{List, [], _∷_, _++_, map, append-nil}
-use Prim.Native.Nat.{ℕ, zero, suc, _+_, _-_, _*_, _/_, _%_, _≤_}
+use Prim.Native.Nat.{ℕ, zero, suc, _+_, _-_, _/_, _%_, _≤_}
 use native.Mathlib.Numerals.{add-one}
 use native.Mathlib.Omega.{arith}
 use lib.Dec.{eqb}
 use lib.ListN.{length, take, drop, length-append}
 use lib.Seq.{sets-eq, take-at}
 use Rattle.rules.specs.Words.{pick}
+use Rattle.rules.specs.Limits.{maxTasks}
 use Rattle.rules.specs.Case.{Case, taskCount, releaseCount}
 use Rattle.rules.specs.Replay.{Record, metJobs, missedJobs, openJobs}
 use Rattle.rules.specs.Text.{newlineByte, digitsOf}
@@ -31,17 +32,17 @@ pub total-is : (c : Case) → totalLine c ≡ totalText (releaseCount (c .trace)
 unfolding totalLine totalText
 total-is c = refl
 
--- ---- no line is too long
-line-short : (word : ℕ) (vs : List ℕ) → length vs ≤ 34 → length (numberLine spaceByte word vs) ≤ lineRoom
+-- ---- no line is too long: the longest is of a slot and every task
+line-short : (word : ℕ) (vs : List ℕ) → length vs ≤ maxTasks + 1 → length (numberLine spaceByte word vs) ≤ lineRoom
 line-short word vs h =
     omega (arith, line-length spaceByte (wordOf word) (map digitsOf vs), word-short word, numbers-room spaceByte vs)
 
 -- so it fits where a line has room, and is printed once it is laid
 module _ (word : ℕ) (vs : List ℕ) where
-  pub line-fits : {n : ℕ} → length vs ≤ 34 → lineRoom ≤ n → length (numberLine spaceByte word vs) ≤ n
-  line-fits h r = omega (arith, line-short word vs h)
+  pub line-within : {n : ℕ} → length vs ≤ maxTasks + 1 → lineRoom ≤ n → length (numberLine spaceByte word vs) ≤ n
+  line-within h r = omega (arith, line-short word vs h)
 
-  pub line-printed : {old new : List ℕ} {n : ℕ} → length vs ≤ 34 → Laid 0 (numberLine spaceByte word vs) old new n
+  pub line-printed : {old new : List ℕ} {n : ℕ} → length vs ≤ maxTasks + 1 → Laid 0 (numberLine spaceByte word vs) old new n
       → Printed lineRoom (numberLine spaceByte word vs) old new n
   line-printed h p = record { laid = p; short = omega (arith, p .behind, line-short word vs h) }
 

@@ -9,7 +9,7 @@ use lib.ListN.{getD}
 use Rattle.rules.specs.Words.{pick}
 use Rattle.rules.specs.declared.Fault.{Fault}
 use Rattle.rules.specs.Limits.{maxTasks, maxReleases, recordWidth}
-use Rattle.rules.specs.Case.{Case, taskCount, releaseCount}
+use Rattle.rules.specs.Case.{Case, releaseCount}
 use Rattle.rules.specs.Refusals.{faultOf, noFault, unless, orNext, roomFault, slotFault, caseFault, countsTests, countsFault, replayFault}
 use Rattle.rules.specs.Refusals.{runningFault, Accepted}
 use Rattle.rules.specs.Answers.{Answer, refusal, result, settled}

@@ -1,20 +1,20 @@
 -- The order of lines (`linesFault`, `mayFollow` of rules, Reader; document 01, "The case text"): lines without a fault are procs,
 -- perhaps a policy, one or more tasks, the end, and releases; and such lines have no fault. For CaseLines and RoundTrip.
 use mathlib.Core.Path.{_≡_, refl, sym, ap, _∙_, subst}
-use mathlib.Core.Bool.{Bool, true, false, _||_, not, or-false}
+use mathlib.Core.Bool.{Bool, true, false, _||_, or-false}
 use mathlib.Core.Logic.{_⊎_, inl, inr}
 use mathlib.Core.List.{List, [], _∷_, _++_}
 use Prim.Native.Nat.{ℕ, suc, _+_}
 use native.Mathlib.Omega.{arith}
 use lib.Dec.{eqb}
-use borrow.Author.Tests.{eqb-true, eqb-false, ne-eqb, not-true}
+use borrow.Author.Tests.{eqb-true, ne-eqb}
 use Rattle.rules.specs.declared.Line.{Line}
 use Rattle.rules.specs.declared.Line.the-variants.{Procs, Policy, End}
-use Rattle.rules.specs.Refusals.{noFault, unless, orNext}
+use Rattle.rules.specs.Refusals.{noFault, orNext}
 use Rattle.rules.specs.Reader.{kindOf, mayFollow, mayStop, caseOrder, linesFault}
-use Rattle.legal.specs.Legal.{unless-clear, next-clear}
 use Rattle.texts.specs.Fields.{All}
 use Rattle.texts.specs.LinesOf.{end-release}
+use Rattle.texts.specs.Passing.{lines-clear}
 use Rattle.roundtrip.specs.LineTrip.{Said}
 use Rattle.roundtrip.specs.Listed.{Kind, is-procs, is-policy, is-end}
 
@@ -27,24 +27,6 @@ one-of k i j e = go (eqb k i) refl e
     go false p q = inr (eqb-true k j q)
 
 -- ---- one line
--- lines without a fault: the first says something and may follow the one before, and those after it are without a fault
-record Clear (before n : ℕ) (l : Line) (ls : List Line) : Type 0 where
-  said : Said l
-  follows : mayFollow before (kindOf l) ≡ true
-  rest : linesFault caseOrder (kindOf l) (suc n) ls .number ≡ 0
-
-clear : (before n : ℕ) (l : Line) (ls : List Line) → linesFault caseOrder before n (l ∷ ls) .number ≡ 0 → Clear before n l ls
-unfolding linesFault Said
-clear before n l ls h =
-    let a = next-clear (unless (not (eqb (kindOf l) 0)) 2 n) _ h in
-    let b = next-clear (unless (mayFollow before (kindOf l)) 3 n) _ (a .1) in
-    let d = next-clear (linesFault caseOrder (kindOf l) (suc n) ls) _ (b .1) in
-    record {
-      said = eqb-false (kindOf l) 0 (not-true _ (unless-clear _ 2 n (omega arith) (a .0)));
-      follows = unless-clear _ 3 n (omega arith) (b .0);
-      rest = d .0;
-    }
-
 fault-next : (before n k : ℕ) (l : Line) (ls : List Line)
     → Kind (suc k) l → mayFollow before (suc k) ≡ true → linesFault caseOrder (suc k) (suc n) ls ≡ noFault
     → linesFault caseOrder before n (l ∷ ls) ≡ noFault
@@ -52,17 +34,17 @@ unfolding linesFault orNext
 fault-next before n k l ls e f g = rw (e, ne-eqb (suc k) 0 (λ z. omega arith), f, g)
 
 pub all-said : (before n : ℕ) (ls : List Line) → linesFault caseOrder before n ls .number ≡ 0 → All Said ls
-unfolding All
+unfolding All Said
 all-said before n [] h = tt
-all-said before n (l ∷ ls) h = let c = clear before n l ls h in (c .said, all-said (kindOf l) (suc n) ls (c .rest))
+all-said before n (l ∷ ls) h = let c = lines-clear caseOrder before n l ls h in (c .line .said, all-said (kindOf l) (suc n) ls (c .rest))
 
 -- ---- after the end: releases
 releases-only : (n : ℕ) (ls : List Line) → linesFault caseOrder 5 n ls .number ≡ 0 → All (Kind 5) ls
 unfolding All mayFollow
 releases-only n [] h = tt
 releases-only n (l ∷ ls) h =
-    let c = clear 5 n l ls h in
-    let e : Kind 5 l = eqb-true (kindOf l) 5 (c .follows) in
+    let c = lines-clear caseOrder 5 n l ls h in
+    let e : Kind 5 l = eqb-true (kindOf l) 5 (c .line .follows) in
     (e, releases-only (suc n) ls (rw e at (c .rest)))
 
 releases-clear : (n : ℕ) (ls : List Line) → All (Kind 5) ls → linesFault caseOrder 5 n ls ≡ noFault
@@ -94,8 +76,8 @@ tail-of : (n : ℕ) (ls : List Line) → linesFault caseOrder 3 n ls .number ≡
 unfolding linesFault mayFollow mayStop All
 tail-of n [] h = absurd (omega arith)
 tail-of n (l ∷ ls) h =
-    let c = clear 3 n l ls h in
-    go (tail-of (suc n) ls) (c .rest) (one-of (kindOf l) 3 4 (simp or-false at (c .follows)))
+    let c = lines-clear caseOrder 3 n l ls h in
+    go (tail-of (suc n) ls) (c .rest) (one-of (kindOf l) 3 4 (simp or-false at (c .line .follows)))
   where
     go : (linesFault caseOrder 3 (suc n) ls .number ≡ 0 → Tail ls) → linesFault caseOrder (kindOf l) (suc n) ls .number ≡ 0
         → Kind 3 l ⊎ Kind 4 l → Tail (l ∷ ls)
@@ -142,8 +124,8 @@ body-of n l ls e h = record { task = l; others = ls; is-task = e; tail = tail-of
 body-after-policy : (n : ℕ) (ls : List Line) → linesFault caseOrder 2 n ls .number ≡ 0 → Body ls
 unfolding linesFault mayFollow mayStop
 body-after-policy n [] h = absurd (omega arith)
-body-after-policy n (l ∷ ls) h = let c = clear 2 n l ls h in
-    body-of n l ls (eqb-true (kindOf l) 3 (simp or-false at (c .follows))) (c .rest)
+body-after-policy n (l ∷ ls) h = let c = lines-clear caseOrder 2 n l ls h in
+    body-of n l ls (eqb-true (kindOf l) 3 (simp or-false at (c .line .follows))) (c .rest)
 
 body-clear : (ls : List Line) → Body ls → (n : ℕ) → linesFault caseOrder 2 n ls ≡ noFault
 unfolding mayFollow
@@ -159,7 +141,9 @@ pub record Ordered (ls : List Line) : Type 0 where
 ordered-after-procs : (n m : ℕ) (ls : List Line) → linesFault caseOrder 1 n ls .number ≡ 0 → Ordered (Procs m ∷ ls)
 unfolding linesFault mayFollow mayStop
 ordered-after-procs n m [] h = absurd (omega arith)
-ordered-after-procs n m (l ∷ ls) h = let c = clear 1 n l ls h in go (c .rest) (one-of (kindOf l) 2 3 (simp or-false at (c .follows)))
+ordered-after-procs n m (l ∷ ls) h =
+    let c = lines-clear caseOrder 1 n l ls h in
+    go (c .rest) (one-of (kindOf l) 2 3 (simp or-false at (c .line .follows)))
   where
     go : linesFault caseOrder (kindOf l) (suc n) ls .number ≡ 0 → Kind 2 l ⊎ Kind 3 l → Ordered (Procs m ∷ l ∷ ls)
     go rest (inl e) =
@@ -171,8 +155,8 @@ pub ordered-of : (ls : List Line) → linesFault caseOrder 0 1 ls .number ≡ 0 
 unfolding linesFault mayFollow mayStop
 ordered-of [] h = absurd (omega arith)
 ordered-of (l ∷ ls) h =
-    let c = clear 0 1 l ls h in
-    let e : Kind 1 l = eqb-true (kindOf l) 1 (simp or-false at (c .follows)) in
+    let c = lines-clear caseOrder 0 1 l ls h in
+    let e : Kind 1 l = eqb-true (kindOf l) 1 (simp or-false at (c .line .follows)) in
     subst (λ z. Ordered (z ∷ ls)) (sym (is-procs l e .1)) (ordered-after-procs 2 (is-procs l e .0) ls (rw e at (c .rest)))
 
 pub ordered-clear : (m p : ℕ) (ls : List Line) → Body ls → linesFault caseOrder 0 1 (Procs m ∷ Policy p ∷ ls) ≡ noFault

@@ -1,15 +1,18 @@
--- What it means to pass the tests of the reader (rules, Reader: `lengthFault`, `textFault`, `readFault`), as legal's Passing says it of the
+-- What it means to pass the tests of the reader (rules, Reader: 1 to 3, `textFault`, `readFault`), as legal's Passing says it of the
 -- tests on numbers. The reader's proof, the round trip and what is answered to a text cite these laws.
 use mathlib.Core.Path.{_≡_, ap, _∙_}
-use mathlib.Core.List.{List, [], _∷_}
-use Prim.Native.Nat.{ℕ, _*_, _≤_}
+use mathlib.Core.Bool.{true, not}
+use mathlib.Core.List.{List, [], _∷_, _++_}
+use Prim.Native.Nat.{ℕ, suc, _*_, _≤_}
 use native.Mathlib.Omega.{arith}
+use lib.Dec.{eqb}
 use lib.ListN.{length}
-use borrow.Author.Tests.{leb-true, le-leb}
+use borrow.Author.Tests.{eqb-false, leb-true, le-leb, not-true}
 use Rattle.rules.specs.declared.Fault.{Fault}
+use Rattle.rules.specs.declared.Line.{Line}
 use Rattle.rules.specs.Limits.{maxTasks, maxReleases, maxText, taskWidth, releaseWidth}
-use Rattle.rules.specs.Refusals.{noFault, orNext, first, roomFault, caseFault, Accepted}
-use Rattle.rules.specs.Reader.{linesOf, caseOrder, linesFault, caseIn, lengthFault, textFault, readFault}
+use Rattle.rules.specs.Refusals.{noFault, unless, orNext, first, roomFault, caseFault, Accepted}
+use Rattle.rules.specs.Reader.{linesOf, kindOf, Order, caseOrder, linesFault, caseIn, lengthFault, textFault, readFault}
 use Rattle.legal.specs.Firsts.{unless-clear, AllClear, row-clear, row-none, row-join, next-none}
 use Rattle.legal.specs.Passing.{room-clear, room-none}
 
@@ -28,6 +31,32 @@ length-clear s e = leb-true (length s) maxText (unless-clear _ 1 0 (omega arith)
 length-passes : (s : List ℕ) → length s ≤ maxText → lengthFault s .number ≡ 0
 unfolding lengthFault
 length-passes s h = rw (le-leb (length s) maxText h)
+
+-- ---- 2 and 3: a line of kind k is well formed and may follow, and so those after it
+abbrev pub lineTests : Order → ℕ → ℕ → ℕ → List Fault
+lineTests o before k n = unless (not (eqb k 0)) 2 n ∷ unless (o .follows before k) 3 n ∷ []
+
+pub record LineClear (o : Order) (before k : ℕ) : Type 0 where
+  pub said : k ≡ 0 → ⊥
+  pub follows : o .follows before k ≡ true
+
+pub line-clear : (o : Order) (before k n : ℕ) → AllClear (lineTests o before k n) → LineClear o before k
+line-clear o before k n w =
+    record {
+      said = eqb-false k 0 (not-true _ (unless-clear _ 2 n (omega arith) (w .0)));
+      follows = unless-clear _ 3 n (omega arith) (w .1 .0);
+    }
+
+pub record LinesClear (o : Order) (before n : ℕ) (l : Line) (ls : List Line) : Type 0 where
+  pub line : LineClear o before (kindOf l)
+  pub rest : linesFault o (kindOf l) (suc n) ls .number ≡ 0
+
+pub lines-clear : (o : Order) (before n : ℕ) (l : Line) (ls : List Line) → linesFault o before n (l ∷ ls) .number ≡ 0
+    → LinesClear o before n l ls
+unfolding linesFault
+lines-clear o before n l ls e =
+    let w = row-clear (lineTests o before (kindOf l) n ++ (linesFault o (kindOf l) (suc n) ls ∷ [])) e in
+    record { line = line-clear o before (kindOf l) n (w .0, (w .1 .0, tt)); rest = w .1 .1 .0 }
 
 -- ---- a text: 1, its lines, its case; both ways
 abbrev textTests : List ℕ → List Fault

@@ -1,15 +1,14 @@
 -- `prints::put_running` meets its contract: it is a line of numbers, the slot first and then the tasks of the set.
 use mathlib.Core.Path.{_≡_, refl}
 use mathlib.Core.List.{_∷_}
-use Prim.Native.Nat.{_-_, _≤_}
+use Prim.Native.Nat.{_-_}
 use borrow.Author.Needs.{needs}
 use native.Mathlib.Omega.{arith}
-use lib.ListN.{length, take}
+use lib.ListN.{take}
 use Rattle.rules.specs.Limits.{maxTasks}
-use Rattle.rules.specs.Report.{spaceByte}
-use Rattle.puts.specs.Fields.{numberLine, wordOf}
-use Rattle.prints.specs.Lines.{lineRoom, membersOf, runningLine}
-use Rattle.prints.proofs.Lines.{line-fits, line-printed, members-few, slot-first}
+use Rattle.puts.specs.Fields.{wordOf}
+use Rattle.prints.specs.Lines.{membersOf, runningLine}
+use Rattle.prints.proofs.Lines.{line-within, line-printed, members-few, slot-first}
 use Rattle.prints.proofs.put_running.Statement.{statement}
 use Rattle.prints.proofs.put_running.Tie as tie
 
@@ -40,7 +39,7 @@ put-line-requires : tie.Need-put-line-requires
 put-line-requires c κs =
     let start = c .before .before .before .before .before .before .before in
     rw (numbers (c .before .before .before .before))
-    (line-fits 10 (start .args .slot ∷ membersOf (start .args .set) maxTasks) (omega (arith, members-few (start .args .set) maxTasks))
+    (line-within 10 (start .args .slot ∷ membersOf (start .args .set) maxTasks) (omega (arith, members-few (start .args .set) maxTasks))
     (start .pre))
 
 same-length : tie.Need-same-length
