@@ -83,11 +83,12 @@ module _ (s ts rs : List ℕ) (g : Gathered) (table trace : List ℕ) (room : ro
       (omega (arith, l .tasks-few, w .tasks .even), omega (arith, l .releases-few, w .releases .even))
 
   -- so there is room for them
-  pub tasks-fit : length (take (g .tasks - 0) table) ≤ length ts
-  tasks-fit = rw sub-zero (omega (arith, kept-long _ _ (g .tasks) table (w .tasks), few-numbers .0, enough-room _ _ room .0))
-
-  pub releases-fit : length (take (g .releases - 0) trace) ≤ length rs
-  releases-fit = rw sub-zero (omega (arith, kept-long _ _ (g .releases) trace (w .releases), few-numbers .1, enough-room _ _ room .1))
+  pub both-fit : (length (take (g .tasks - 0) table) ≤ length ts) × (length (take (g .releases - 0) trace) ≤ length rs)
+  both-fit =
+      let e = enough-room _ _ room in (
+        rw sub-zero (omega (arith, kept-long _ _ (g .tasks) table (w .tasks), few-numbers .0, e .0)),
+        rw sub-zero (omega (arith, kept-long _ _ (g .releases) trace (w .releases), few-numbers .1, e .1)),
+      )
 
   -- and with them in the rooms the answer is that of the text
   pub all-read : (r : Taken) (ts′ rs′ : List ℕ) → PutsCase (fronts (g .head) (g .tasks) table (g .releases) trace) ts rs r ts′ rs′

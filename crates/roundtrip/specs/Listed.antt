@@ -3,12 +3,12 @@
 use mathlib.Core.Path.{_≡_, refl, sym, ap, ap₂, _∙_, subst}
 use mathlib.Core.Bool.{Bool, true, false}
 use mathlib.Core.List.{List, [], _∷_, _++_, append-assoc, append-nil}
-use Prim.Native.Nat.{ℕ, zero, suc, _+_, _*_, _≤_, _<_}
+use Prim.Native.Nat.{ℕ, zero, suc, _+_, _*_, _≤_}
 use native.Mathlib.Nat.{suc-mul, zero-mul}
 use native.Mathlib.Omega.{arith}
 use lib.Dec.{eqb}
 use lib.ListN.{length, getD, drop, length-append, drop-of-length-le}
-use lib.Seq.{drop-cons, getD-append-add}
+use lib.Seq.{getD-append-add}
 use Rattle.rules.specs.Words.{pick, tab}
 use Rattle.rules.specs.declared.Line.{Line}
 use Rattle.rules.specs.declared.Line.the-variants.{Bad, Procs, Policy, Row, End, Release}
@@ -16,6 +16,7 @@ use Rattle.rules.specs.Limits.{taskWidth, releaseWidth}
 use Rattle.rules.specs.Case.{Case, caseOf, period, execution, deadline, timeOf, nameOf}
 use Rattle.rules.specs.Reader.{kindOf, withLine, withLines}
 use Rattle.texts.specs.Fields.{All}
+use Rattle.texts.specs.Rows.{parted, task-numbers, release-numbers}
 
 -- the lines of a table and of a trace
 unfoldable pub rowAt : List ℕ → ℕ → Line
@@ -90,21 +91,12 @@ pub record Lists (k w : ℕ) (at : List ℕ → ℕ → Line) : Type 0 where
 past-seam-at : (xs ys : List ℕ) (i j k : ℕ) → length xs ≡ i → i + j ≡ k → getD (xs ++ ys) k 0 ≡ getD ys j 0
 past-seam-at xs ys i j k p q = rw (← q, ← p) (getD-append-add xs ys j 0)
 
--- the elements from place i on, the next at place j
-next-at : (xs : List ℕ) (i j : ℕ) → i < length xs → suc i ≡ j → drop i xs ≡ getD xs i 0 ∷ drop j xs
-next-at xs i j h e = rw (← e) (drop-cons xs i 0 h)
-
 pub rows-list : Lists 3 taskWidth rowAt
 unfolding rowAt listed
 rows-list = record {
   kind = λ xs i. refl;
   wide = λ l h. ap (λ z. length (listed z)) (is-row l h .3);
-  there = λ xs i h.
-      rw (
-        next-at xs (i * taskWidth) (i * taskWidth + 1) (omega arith) (omega arith),
-        next-at xs (i * taskWidth + 1) (i * taskWidth + 2) (omega arith) (omega arith),
-        next-at xs (i * taskWidth + 2) (i * taskWidth + taskWidth) (omega arith) (omega arith),
-      );
+  there = λ xs i h. parted taskWidth (i * taskWidth) xs ∙ rw (task-numbers xs i h);
   back = λ xs l ys i h n.
       let (T, C, D, e) = is-row l h in
       let at = past-seam-at xs (T ∷ C ∷ D ∷ ys) (i * taskWidth) in
@@ -116,11 +108,7 @@ unfolding releaseAt listed
 releases-list = record {
   kind = λ xs j. refl;
   wide = λ l h. ap (λ z. length (listed z)) (is-release l h .2);
-  there = λ xs j h.
-      rw (
-        next-at xs (j * releaseWidth) (j * releaseWidth + 1) (omega arith) (omega arith),
-        next-at xs (j * releaseWidth + 1) (j * releaseWidth + releaseWidth) (omega arith) (omega arith),
-      );
+  there = λ xs j h. parted releaseWidth (j * releaseWidth) xs ∙ rw (release-numbers xs j h);
   back = λ xs l ys j h n.
       let (t, m, e) = is-release l h in
       let at = past-seam-at xs (t ∷ m ∷ ys) (j * releaseWidth) in

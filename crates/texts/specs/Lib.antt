@@ -4,3 +4,4 @@ pub mod LinesOf
 pub mod WordLists
 pub mod PolicyNames
 pub mod Passing
+pub mod Rows

@@ -1,18 +1,19 @@
 -- Rows of numbers as lines: one more row, the rows of tasks and releases, and how many bytes rows take.
 use mathlib.Core.Path.{_≡_, refl, ap, _∙_}
-use mathlib.Core.List.{List, [], _∷_, _++_, map}
+use mathlib.Core.List.{List, [], _++_, map}
 use Prim.Native.Nat.{ℕ, zero, suc, _+_, _-_, _*_, _≤_, _<_}
 use native.Mathlib.Nat.{add-zero, add-suc, suc-mul, zero-mul}
 use native.Mathlib.Numerals.{add-one}
 use native.Mathlib.Omega.{arith}
-use lib.ListN.{length, take, drop, getD, length-append}
-use lib.Seq.{drop-cons, take-add}
+use lib.ListN.{length, take, drop, length-append}
+use lib.Seq.{take-add}
 use Rattle.rules.specs.Words.{tab}
 use Rattle.rules.specs.Limits.{taskWidth, releaseWidth}
 use Rattle.rules.specs.Case.{taskCount, releaseCount}
 use Rattle.rules.specs.Text.{digitsOf}
 use Rattle.rules.specs.Writer.{joinedText, taskText, releaseText}
 use Rattle.lists.specs.Lists.{joined-more, tab-cong}
+use Rattle.texts.specs.Rows.{task-numbers, release-numbers}
 use Rattle.puts.specs.Fields.{fieldsText, numberFields, numberLine, wordOf}
 use Rattle.puts.proofs.Lines.{line-length, numbers-append}
 use Rattle.writer.specs.Rows.{rowText, rowsText}
@@ -82,32 +83,13 @@ module _ (word width : ℕ) (vs : List ℕ) where
       ))
 
 -- ---- tasks and releases as rows
-part-cons : (xs : List ℕ) (n k : ℕ) → k < length xs → take (suc n) (drop k xs) ≡ getD xs k 0 ∷ take n (drop (suc k) xs)
-part-cons xs n k h = rw (drop-cons xs k 0 h)
-
 pub task-row : (ts : List ℕ) (i : ℕ) → i < taskCount ts → taskText ts i ≡ rowText 3 taskWidth ts i
 unfolding taskText rowText wordOf
-task-row ts i h =
-    let a : i * taskWidth < length ts = omega arith in
-    let b : suc (i * taskWidth) < length ts = omega arith in
-    let c : suc (suc (i * taskWidth)) < length ts = omega arith in
-    let one : i * taskWidth + 1 ≡ suc (i * taskWidth) = omega arith in
-    let two : i * taskWidth + 2 ≡ suc (suc (i * taskWidth)) = omega arith in
-    rw (
-      part-cons ts 2 (i * taskWidth) a,
-      part-cons ts 1 (suc (i * taskWidth)) b,
-      part-cons ts 0 (suc (suc (i * taskWidth))) c,
-      one,
-      two,
-    ) refl
+task-row ts i h = rw (task-numbers ts i (omega arith))
 
 pub release-row : (rs : List ℕ) (j : ℕ) → j < releaseCount rs → releaseText rs j ≡ rowText 5 releaseWidth rs j
 unfolding releaseText rowText wordOf
-release-row rs j h =
-    let a : j * releaseWidth < length rs = omega arith in
-    let b : suc (j * releaseWidth) < length rs = omega arith in
-    let one : j * releaseWidth + 1 ≡ suc (j * releaseWidth) = omega arith in
-    rw (part-cons rs 1 (j * releaseWidth) a, part-cons rs 0 (suc (j * releaseWidth)) b, one) refl
+release-row rs j h = rw (release-numbers rs j (omega arith))
 
 pub task-rows : (ts : List ℕ) → joinedText (tab (taskText ts) 0 (taskCount ts)) ≡ rowsText 3 taskWidth ts (taskCount ts)
 unfolding rowsText

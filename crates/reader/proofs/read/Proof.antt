@@ -4,7 +4,7 @@ use lib.ListN.{length}
 use Rattle.rules.specs.declared.Fault.{Fault}
 use Rattle.reader.specs.Reads.{roomsFault}
 use Rattle.reader.proofs.Answered.{at-rooms, at-text, refuses}
-use Rattle.reader.proofs.Kept.{tasks-fit, releases-fit, all-read}
+use Rattle.reader.proofs.Kept.{both-fit, all-read}
 use borrow.Author.Needs.{needs}
 use Rattle.reader.proofs.read.Statement.{statement}
 use Rattle.reader.proofs.read.Tie as tie
@@ -82,11 +82,8 @@ put-case-requires : tie.Need-put-case-requires
 put-case-requires c κs =
     let clear = c .before .before .before .before .before .before .before in
     let text = done (clear .before) in
-    let a = entry (begun text .before .before) .args in (
-      tasks-fit (a .text .now) (a .tasks .now) (a .releases .now) _ _ _ (enough (begun text)) (text .read-case .ensures) (clear .if2 .left),
-      releases-fit (a .text .now) (a .tasks .now) (a .releases .now) _ _ _ (enough (begun text)) (text .read-case .ensures)
-          (clear .if2 .left),
-    )
+    let a = entry (begun text .before .before) .args in
+    both-fit (a .text .now) (a .tasks .now) (a .releases .now) _ _ _ (enough (begun text)) (text .read-case .ensures) (clear .if2 .left)
 
 same-length : tie.Need-same-length
 same-length c = search needs
