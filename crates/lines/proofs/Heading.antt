@@ -5,22 +5,21 @@ use mathlib.Core.List.{List, [], _∷_}
 use Prim.Native.Nat.{ℕ, _+_, _≤_, _<_}
 use native.Mathlib.Decide.{decLe}
 use native.Mathlib.Omega.{arith}
-use lib.ListN.{length, drop, take}
+use lib.ListN.{length, take}
 use borrow.Author.Tests.{ne-eqb}
 use Rattle.rules.specs.Limits.{taskWidth}
-use Rattle.rules.specs.Text.{afterLine}
 use Rattle.rules.specs.Refusals.{faultOf}
 use Rattle.rules.specs.Reader.{kindOf, linesOf, mayFollow, mayStop, caseOrder, linesFault, policyWhenAbsent, withLines}
 use Rattle.rules.specs.declared.Fault.{Fault}
 use Rattle.rules.specs.declared.Line.{Line}
 use Rattle.rules.specs.declared.Line.the-variants.{Bad, Procs, Policy, Row, End, Release}
-use Rattle.kinds.specs.Says.{Opens}
+use Rattle.legal.specs.Settled.{clear}
 use Rattle.kinds.proofs.Order.{not-release, not-other}
 use Rattle.lines.specs.declared.Head.{Head}
 use Rattle.lines.specs.declared.HeadRead.{HeadRead}
-use Rattle.lines.specs.Held.{tableRoom, traceRoom, clip, keptCase, lineFault, nextSays, noLines, headWith, rowNumbers, releaseNumbers}
-use Rattle.lines.specs.Held.{Added}
-use Rattle.lines.specs.Gathers.{InHead}
+use Rattle.lines.specs.declared.Step.{Step}
+use Rattle.lines.specs.Held.{tableRoom, traceRoom, clip, keptCase, lineFault, noLines, headWith, rowNumbers, releaseNumbers, Added}
+use Rattle.lines.specs.Gathers.{NextLine, InHead}
 use Rattle.lines.proofs.Faults.{line-follows}
 use Rattle.lines.proofs.Keeps.{kept-line}
 use Rattle.lines.proofs.Reading.{reading-none, reading-end, reading-on}
@@ -66,20 +65,20 @@ module _ (s : List ℕ) (top : HeadRead) (table : List ℕ) (w : InHead s top ta
       (e ∙ rw (ne-eqb (top .before) 4 (λ z. omega arith), ne-eqb (top .before) 5 (λ z. omega arith)))
 
   -- one more line is read
-  pub head-more : (f : Fault) (said : Line) (k at′ : ℕ) (h′ : Head) (t′ : ℕ) (table′ : List ℕ) → top .before < 4 → top .next < length s
-      → said ≡ nextSays (drop (top .next) s) → Opens k said → f ≡ lineFault caseOrder (top .before) (kindOf said) (top .line)
-      → f .number ≡ 0
-      → drop at′ s ≡ afterLine (drop (top .next) s) → top .next < at′ → at′ ≤ length s
-      → h′ ≡ headWith (top .head) said → Added tableRoom taskWidth (top .tasks) (rowNumbers said) table t′ table′
-      → InHead s (record { fault = f; head = h′; tasks = t′; before = k; line = top .line + 1; next = at′ }) table′
-  head-more f said k at′ h′ t′ table′ b l e opens p q d a i g x =
-      let follows = line-follows caseOrder (top .before) k (top .line) said opens (ap (λ (u : Fault). u .number) (sym p) ∙ q) in
+  pub head-more : (f : Fault) (step : Step) (h′ : Head) (t′ : ℕ) (table′ : List ℕ) → top .before < 4 → top .next < length s
+      → NextLine s (top .next) step → f ≡ lineFault caseOrder (top .before) (kindOf (step .said)) (top .line) → f .number ≡ 0
+      → h′ ≡ headWith (top .head) (step .said) → Added tableRoom taskWidth (top .tasks) (rowNumbers (step .said)) table t′ table′
+      → InHead s (record { fault = f; head = h′; tasks = t′; before = step .kind; line = top .line + 1; next = step .next }) table′
+  head-more f step h′ t′ table′ b l line p q g x =
+      let said = step .said in
+      let e = line .said in
+      let follows = line-follows caseOrder (top .before) (step .kind) (top .line) said (line .opens) (clear _ _ p q) in
       let few = head-follows (top .before) (kindOf said) b (follows .1) in
       let none : [] ≡ take traceRoom (releaseNumbers said) = rw (not-released said few) refl in
       record {
         reading =
-            reading-on _ _ _ _ _ _ _ (w .reading) f _ k at′ l (ap kindOf (sym e) ∙ follows .0)
-            (p ∙ ap (λ (y : Line). lineFault caseOrder (top .before) (kindOf y) (top .line)) e) q d a i
+            reading-on _ _ _ _ _ _ _ (w .reading) f _ _ _ l (ap kindOf (sym e) ∙ follows .0)
+            (p ∙ ap (λ (y : Line). lineFault caseOrder (top .before) (kindOf y) (top .line)) e) q (line .unread) (line .on) (line .within)
             (λ ls. ap (λ (y : Line). clip (withLines (keptCase (top .head) (top .tasks) table 0 []) (y ∷ ls))) (sym e) ∙
             kept-line (top .head) (top .tasks) 0 table [] said ls t′ 0 table′ [] (x .kept) none ∙
             ap (λ (u : Head). clip (withLines (keptCase u t′ table′ 0 []) ls)) (sym g));

@@ -15,10 +15,12 @@ use Rattle.rules.specs.Reader.{kindOf, linesOf, mayFollow, mayStop, caseOrder, 
 use Rattle.rules.specs.declared.Fault.{Fault}
 use Rattle.rules.specs.declared.Line.{Line}
 use Rattle.rules.specs.declared.Line.the-variants.{Bad, Procs, Policy, Row, End, Release}
+use Rattle.legal.specs.Settled.{clear}
 use Rattle.texts.specs.LinesOf.{end-release}
 use Rattle.texts.specs.Passing.{lines-clear}
-use Rattle.lines.specs.Held.{traceRoom, lineFault, nextSays, releaseNumbers, traceOf, Whole, Added}
-use Rattle.lines.specs.Gathers.{Releases}
+use Rattle.lines.specs.declared.ReleaseStep.{ReleaseStep}
+use Rattle.lines.specs.Held.{traceRoom, lineFault, nextSays, releaseNumbers, traceOf, Whole}
+use Rattle.lines.specs.Gathers.{ReleaseLine, Releases}
 use Rattle.lines.proofs.Faults.{line-follows, fault-stop}
 use Rattle.lines.proofs.Keeps.{take-clipped}
 use Rattle.lines.proofs.Reading.{unread-lines, unread-none, fault-next, fault-after}
@@ -42,37 +44,34 @@ unfolding mayFollow
 released l n e = eqb-true (kindOf l) 5 (line-follows caseOrder 4 (kindOf l) n l (λ _. refl) e .1)
 
 module _ (s : List ℕ) (at₀ n₀ at n r : ℕ) (trace : List ℕ) (w : Releasing s at₀ n₀ at n r trace) where
-  -- the next line is at fault
-  pub releasing-stop : (f : Fault) → at < length s → f ≡ lineFault caseOrder 4 (kindOf (nextSays (drop at s))) n → (f .number ≡ 0 → ⊥)
-      → f ≡ linesFault caseOrder 4 n₀ (linesOf (drop at₀ s))
-  releasing-stop f l p q = fault-next caseOrder s 4 n at f l p q ∙ sym (w .fault)
+  -- the next line
+  module _ (step : ReleaseStep) (trace′ : List ℕ) (l : at < length s) (x : ReleaseLine s at n r trace step trace′) where
+    -- is at fault
+    pub releasing-stop : (step .fault .number ≡ 0 → ⊥) → step .fault ≡ linesFault caseOrder 4 n₀ (linesOf (drop at₀ s))
+    releasing-stop q = fault-next caseOrder s 4 n at (step .fault) l (x .fault) q ∙ sym (w .fault)
 
-  -- it is read
-  pub releasing-on : (f : Fault) (at′ r′ : ℕ) (trace′ : List ℕ) → at < length s
-      → f ≡ lineFault caseOrder 4 (kindOf (nextSays (drop at s))) n
-      → f .number ≡ 0 → drop at′ s ≡ afterLine (drop at s) → at < at′ → at′ ≤ length s
-      → Added traceRoom releaseWidth r (releaseNumbers (nextSays (drop at s))) trace r′ trace′
-      → Releasing s at₀ n₀ at′ (n + 1) r′ trace′
-  unfolding traceOf
-  releasing-on f at′ r′ trace′ l p q d a i x =
-      let said = nextSays (drop at s) in
-      let new = releaseNumbers said in
-      let rest = traceOf (linesOf (afterLine (drop at s))) in
-      record {
-        within = i;
-        counted = omega (arith, w .counted);
-        fault =
-            w .fault ∙ fault-after caseOrder s 4 n at at′ f l p q d ∙
-            ap (λ (k : ℕ). linesFault caseOrder k (n + 1) (linesOf (drop at′ s)))
-            (released said n (ap (λ (g : Fault). g .number) (sym p) ∙ q)) ∙
-            sym (end-release (n + 1) (linesOf (drop at′ s)));
-        kept =
-            w .kept ∙ ap (λ (ls : List Line). take traceRoom (take r trace ++ traceOf ls)) (unread-lines s at l) ∙
-            ap (take traceRoom) (sym (append-assoc (take r trace) new rest)) ∙ sym (take-clipped traceRoom (take r trace ++ new) rest) ∙
-            ap (λ (z : List ℕ). take traceRoom (z ++ rest)) (sym (x .kept)) ∙
-            ap (λ (u : List ℕ). take traceRoom (take r′ trace′ ++ traceOf (linesOf u))) (sym d);
-        releases = x .whole;
-      }
+    -- is read
+    pub releasing-on : step .fault .number ≡ 0 → Releasing s at₀ n₀ (step .next) (n + 1) (step .releases) trace′
+    unfolding traceOf
+    releasing-on q =
+        let said = nextSays (drop at s) in
+        let new = releaseNumbers said in
+        let rest = traceOf (linesOf (afterLine (drop at s))) in
+        let unread = linesOf (drop (step .next) s) in
+        record {
+          within = x .within;
+          counted = omega (arith, w .counted, x .on);
+          fault =
+              w .fault ∙ fault-after caseOrder s 4 n at (step .next) (step .fault) l (x .fault) q (x .unread) ∙
+              ap (λ (k : ℕ). linesFault caseOrder k (n + 1) unread) (released said n (clear _ _ (x .fault) q)) ∙
+              sym (end-release (n + 1) unread);
+          kept =
+              w .kept ∙ ap (λ (ls : List Line). take traceRoom (take r trace ++ traceOf ls)) (unread-lines s at l) ∙
+              ap (take traceRoom) (sym (append-assoc (take r trace) new rest)) ∙ sym (take-clipped traceRoom (take r trace ++ new) rest) ∙
+              ap (λ (z : List ℕ). take traceRoom (z ++ rest)) (sym (x .kept .kept)) ∙
+              ap (λ (u : List ℕ). take traceRoom (take (step .releases) trace′ ++ traceOf (linesOf u))) (sym (x .unread));
+          releases = x .kept .whole;
+        }
 
   -- no line is left
   pub releasing-all : (f : Fault) → length s ≤ at → f ≡ noFault → Releases s at₀ n₀ (record { fault = f; releases = r }) trace

@@ -79,9 +79,8 @@ returns-3 c =
     record {
       fault = λ h. absurd (h (head .before .if2 .left));
       read = λ _. (
-        head-more _ _ _ (start .pre .1 .0) _ _ _ _ _ _ _ (start .pre .1 .1)
-            (omega (arith, start .pre .1 .0 .reading .within, asked .before .before .if1 .left))
-            (line .said) (line .opens) (told asked) (head .before .if2 .left) (line .unread) (line .on) (line .within)
+        head-more _ _ _ (start .pre .1 .0) _ _ _ _ _ (start .pre .1 .1)
+            (omega (arith, start .pre .1 .0 .reading .within, asked .before .before .if1 .left)) line (told asked) (head .before .if2 .left)
             (head .head-with .ensures) (row .keep-row .ensures),
         line .on,
       );

@@ -38,8 +38,8 @@ returns : tie.Need-returns Inv-loop μ-loop
 returns c =
     let line = c .before .before .before .before .before in
     record {
-      fault = releasing-stop _ _ _ _ _ _ _ (turn line .loop .inv) _ (line .before .before .loop-test .taken)
-          (line .release-line .ensures .fault) (c .if1 .taken);
+      fault = releasing-stop _ _ _ _ _ _ _ (turn line .loop .inv) _ _ (line .before .before .loop-test .taken)
+          (line .release-line .ensures) (c .if1 .taken);
       kept = λ z. absurd (c .if1 .taken z);
       releases =
           record {
@@ -62,9 +62,8 @@ loop-less c =
 loop-again : tie.Need-loop-again Inv-loop μ-loop
 loop-again c =
     let line = c .before .before .before .before .before in
-    let read = line .release-line .ensures in
-    releasing-on _ _ _ _ _ _ _ (turn line .loop .inv) _ _ _ _ (line .before .before .loop-test .taken) (read .fault) (c .if1 .left)
-    (read .unread) (read .on) (read .within) (read .kept)
+    releasing-on _ _ _ _ _ _ _ (turn line .loop .inv) _ _ (line .before .before .loop-test .taken) (line .release-line .ensures)
+    (c .if1 .left)
 
 fault-requires : tie.Need-fault-requires Inv-loop μ-loop
 fault-requires c κs = search needs
