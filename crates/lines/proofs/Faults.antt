@@ -1,30 +1,18 @@
 -- Laws of `linesFault`, under any order of lines: what is at fault with the next line is the answer, and else what is at fault with
 -- those after it.
 use mathlib.Core.Path.{_≡_, refl, sym, _∙_}
-use mathlib.Core.Bool.{Bool, true, false}
+use mathlib.Core.Bool.{true, false}
 use mathlib.Core.List.{List, [], _∷_, _++_}
 use Prim.Native.Nat.{ℕ, suc}
 use native.Mathlib.Omega.{arith}
-use lib.Dec.{eqb}
-use borrow.Author.Tests.{eqb-true, ne-eqb}
-use Rattle.rules.specs.Words.{pick}
+use borrow.Author.Tests.{ne-eqb}
 use Rattle.rules.specs.Refusals.{faultOf, noFault, unless, orNext}
 use Rattle.rules.specs.Reader.{kindOf, Order, linesFault}
-use Rattle.rules.specs.declared.Fault.{Fault}
 use Rattle.rules.specs.declared.Line.{Line}
 use Rattle.legal.specs.Firsts.{unless-none, next-none, row-clear, row-none, row-join, row-stop}
-use Rattle.texts.specs.Passing.{lineTests, line-clear}
+use Rattle.texts.specs.Passing.{next-last, lineTests, line-clear}
 use Rattle.kinds.specs.Says.{Opens}
 use Rattle.lines.specs.Held.{lineFault}
-
--- nothing follows a fault
-next-last : (f : Fault) → (f .number ≡ 0 → f ≡ noFault) → orNext f noFault ≡ f
-unfolding orNext
-next-last f h = go (eqb (f .number) 0) refl
-  where
-    go : (b : Bool) → eqb (f .number) 0 ≡ b → pick b noFault f ≡ f
-    go true e = sym (h (eqb-true _ _ e))
-    go false e = refl
 
 module _ (o : Order) where
   -- where no line is at fault the place is 0

@@ -4,22 +4,23 @@ use mathlib.Core.Bool.{Bool, true, false}
 use mathlib.Core.List.{List, [], _∷_}
 use Prim.Native.Nat.{ℕ, _*_, _≤_}
 use native.Mathlib.Omega.{arith}
-use lib.Dec.{eqb, ltb}
+use lib.Dec.{ltb}
 use lib.ListN.{getD}
 use Rattle.rules.specs.Words.{pick}
 use Rattle.rules.specs.declared.Fault.{Fault}
 use Rattle.rules.specs.Limits.{maxTasks, maxReleases, recordWidth}
 use Rattle.rules.specs.Case.{Case, releaseCount}
-use Rattle.rules.specs.Refusals.{faultOf, noFault, unless, orNext, roomFault, slotFault, caseFault, countsTests, countsFault, replayFault}
+use Rattle.rules.specs.Refusals.{faultOf, noFault, unless, roomFault, slotFault, caseFault, countsTests, countsFault, replayFault}
 use Rattle.rules.specs.Refusals.{runningFault, Accepted}
 use Rattle.rules.specs.Answers.{Answer, refusal, result, settled}
 use Rattle.rules.specs.Replay.{runningSet}
 use Rattle.rules.specs.Calls.{runningAnswer}
 use Rattle.rules.specs.Writer.{writeFault}
 use Rattle.rules.specs.Report.{refusedLine}
+use Rattle.legal.specs.Firsts.{unless-none, next-none}
 use Rattle.legal.specs.Legal.{legal, case-passes}
 use Rattle.legal.specs.Settled.{refuses, settled-clear, valuesOf, no-refusal, settled-result}
-use Rattle.texts.specs.Passing.{row-passes, room-passes}
+use Rattle.texts.specs.Passing.{row-passes, room-passes, next-last}
 use Rattle.roundtrip.specs.CaseLines.{text-fits}
 use Rattle.roundtrip.specs.CallTrip.{write-clear}
 use Rattle.prints.specs.Lines.{runningLine}
@@ -61,12 +62,8 @@ counts-fits c h =
 
 -- ---- the running set: refused where the slot is beyond the end
 slot-fault : (c : Case) (s : ℕ) → Accepted c → runningFault c s ≡ unless (ltb s (c .end)) 15 0
-unfolding runningFault Accepted slotFault orNext
-slot-fault c s h = rw h (go (ltb s (c .end)))
-  where
-    go : (b : Bool) → pick (eqb (unless b 15 0 .number) 0) noFault (unless b 15 0) ≡ unless b 15 0
-    go true = refl
-    go false = refl
+unfolding runningFault Accepted slotFault
+slot-fault c s h = next-none (caseFault c) _ h ∙ next-last _ (unless-none (ltb s (c .end)) 15 0 (omega arith))
 
 module _ (c : Case) (s : ℕ) (ok : Accepted c) where
   running-is : runningAnswer c s ≡ settled (unless (ltb s (c .end)) 15 0) (runningSet c s ∷ [])

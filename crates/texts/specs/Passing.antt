@@ -1,13 +1,14 @@
 -- What it means to pass the tests of the reader (rules, Reader: 1 to 3, `textFault`, `readFault`), as legal's Passing says it of the
 -- tests on numbers. The reader's proof, the round trip and what is answered to a text cite these laws.
-use mathlib.Core.Path.{_≡_, ap, _∙_}
-use mathlib.Core.Bool.{true, not}
+use mathlib.Core.Path.{_≡_, refl, sym, ap, _∙_}
+use mathlib.Core.Bool.{Bool, true, false, not}
 use mathlib.Core.List.{List, [], _∷_, _++_}
 use Prim.Native.Nat.{ℕ, suc, _*_, _≤_}
 use native.Mathlib.Omega.{arith}
 use lib.Dec.{eqb}
 use lib.ListN.{length}
-use borrow.Author.Tests.{eqb-false, leb-true, le-leb, not-true}
+use borrow.Author.Tests.{eqb-true, eqb-false, leb-true, le-leb, not-true}
+use Rattle.rules.specs.Words.{pick}
 use Rattle.rules.specs.declared.Fault.{Fault}
 use Rattle.rules.specs.declared.Line.{Line}
 use Rattle.rules.specs.Limits.{maxTasks, maxReleases, maxText, taskWidth, releaseWidth}
@@ -22,6 +23,15 @@ row-passes fs w = ap (λ (f : Fault). f .number) (row-none fs w)
 
 pub room-passes : (need room : ℕ) → need ≤ room → roomFault need room .number ≡ 0
 room-passes need room h = ap (λ (f : Fault). f .number) (room-none need room h)
+
+-- a test that is asked last
+pub next-last : (f : Fault) → (f .number ≡ 0 → f ≡ noFault) → orNext f noFault ≡ f
+unfolding orNext
+next-last f h = go (eqb (f .number) 0) refl
+  where
+    go : (b : Bool) → eqb (f .number) 0 ≡ b → pick b noFault f ≡ f
+    go true e = sym (h (eqb-true _ _ e))
+    go false e = refl
 
 -- ---- 1: the length of a text, both ways
 pub length-clear : (s : List ℕ) → lengthFault s .number ≡ 0 → length s ≤ maxText
@@ -78,7 +88,7 @@ unfolding textFault Accepted
 text-none s w =
     row-none (textTests s) (length-passes s (w .short), (w .lines, (w .accepted, tt)))
 
--- a row that is asked last is the rest of a longer one
+-- a row that is asked last
 whole : (s : List ℕ) → orNext (textFault s) noFault ≡ textFault s
 unfolding textFault
 whole s = row-join (textTests s) []
