@@ -26,10 +26,8 @@ runningWord = 114 ∷ 117 ∷ 110 ∷ 110 ∷ 105 ∷ 110 ∷ 103 ∷ []
 -- the words of lines in their order: 1 to 5 in the case text, as `wordKind` of rules has them, 6 to 10 in what is printed
 abbrev pub lineWords : List (List ℕ)
 lineWords =
-    runWord ∷
-    procsWord ∷
-    policyWord ∷
-    taskWord ∷ endWord ∷ releaseWord ∷ jobWord ∷ totalWord ∷ refusedWord ∷ countWord ∷ runningWord ∷ []
+    runWord ∷ procsWord ∷ policyWord ∷ taskWord ∷ endWord ∷ releaseWord ∷
+    jobWord ∷ totalWord ∷ refusedWord ∷ countWord ∷ runningWord ∷ []
 
 -- the word of a line by its number; it is `run` for 11 and every other
 unfoldable pub wordOf : ℕ → List ℕ

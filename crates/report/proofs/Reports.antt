@@ -1,20 +1,19 @@
 -- The report of an accepted case: its releases stand, the records in the room are those of the rules, and the lines are the report's.
-use mathlib.Core.Path.{_≡_, refl, sym, ap, _∙_}
+use mathlib.Core.Path.{_≡_, sym, ap, _∙_}
 use mathlib.Core.List.{List, [], _∷_, _++_}
-use Prim.Native.Nat.{ℕ, zero, suc, _+_, _*_, _-_, _≤_, _<_}
-use native.Mathlib.Nat.{not-suc-le-zero}
+use Prim.Native.Nat.{ℕ, _+_, _*_, _-_, _≤_, _<_}
 use native.Mathlib.Omega.{arith}
 use lib.ListN.{length, getD, drop, length-append}
 use Rattle.rules.specs.Words.{tab}
 use Rattle.rules.specs.Limits.{recordWidth}
 use Rattle.rules.specs.Case.{Case, taskCount, releaseCount, timeOf, nameOf, deadline}
 use Rattle.rules.specs.Refusals.{replayFault, Accepted}
-use Rattle.rules.specs.Replay.{Record, recordOf, recordBy, records, numbers, metJobs, missedJobs, openJobs}
+use Rattle.rules.specs.Replay.{recordBy, records, numbers, metJobs, missedJobs, openJobs}
 use Rattle.rules.specs.Calls.{roomAfter, replayRoom}
 use Rattle.rules.specs.Writer.{joinedText}
 use Rattle.rules.specs.Report.{jobLine, totalLine, releaseLine, report}
-use Rattle.lists.specs.Lists.{tab-long, tab-at, tab-cong}
-use Rattle.bridge.specs.Notes.{numbers-long}
+use Rattle.lists.specs.Lists.{tab-long, tab-cong}
+use Rattle.bridge.specs.Notes.{numbers-long, held}
 use Rattle.legal.specs.Legal.{legal}
 use Rattle.legal.specs.Settled.{kept-new}
 use Rattle.puts.specs.Laid.{Laid}
@@ -22,23 +21,6 @@ use Rattle.puts.proofs.Puts.{laid-then}
 use Rattle.prints.specs.Lines.{runText, totalText}
 use Rattle.prints.proofs.Lines.{run-is, total-is}
 use Rattle.report.specs.Cases.{linesText, jobText, Stands}
-
-noRecord : Record
-noRecord = recordOf 0 0 0
-
--- the three numbers of record p
-numbers-at : (rs : List Record) (p : ℕ) (rest : List ℕ) → p < length rs
-    → recordOf (getD (numbers rs ++ rest) (p * recordWidth) 0) (getD (numbers rs ++ rest) (p * recordWidth + 1) 0)
-    (getD (numbers rs ++ rest) (p * recordWidth + 2) 0)
-    ≡ getD rs p noRecord
-unfolding numbers
-numbers-at [] p rest h = absurd (not-suc-le-zero h)
-numbers-at (x ∷ rs) zero rest h = refl
-numbers-at (x ∷ rs) (suc p) rest h =
-    let e2 : suc p * recordWidth + 2 ≡ suc (suc (suc (p * recordWidth + 2))) = omega arith in
-    let e1 : suc p * recordWidth + 1 ≡ suc (suc (suc (p * recordWidth + 1))) = omega arith in
-    let e : suc p * recordWidth ≡ suc (suc (suc (p * recordWidth))) = omega arith in
-    rw (e2, e1, e) (numbers-at rs p rest (omega arith))
 
 module _ (c : Case) (ok : Accepted c) where
   -- each release of an accepted case stands
@@ -74,12 +56,10 @@ module _ (c : Case) (ok : Accepted c) where
     job-is : (j : ℕ) → j < releaseCount (c .trace) → jobText (c .table) (c .trace) out j ≡ releaseLine c j
     unfolding releaseLine
     job-is j h =
-        let long : length (records c) ≡ releaseCount (c .trace) = tab-long (recordBy c (c .end)) 0 (releaseCount (c .trace)) in
-        let g : j < length (records c) = omega (arith, long) in
+        let n = releaseCount (c .trace) in
         rw noted
         (ap (jobLine (timeOf (c .trace) j) (nameOf (c .trace) j) (timeOf (c .trace) j + deadline (c .table) (nameOf (c .trace) j - 1)))
-        (numbers-at (records c) j (drop (releaseCount (c .trace) * recordWidth) room) g
-        ∙ tab-at (recordBy c (c .end)) (releaseCount (c .trace)) j noRecord h))
+        (held (recordBy c (c .end)) n (drop (n * recordWidth) room) j h))
 
     pub jobs-are : linesText (jobText (c .table) (c .trace) out) (releaseCount (c .trace))
         ≡ joinedText (tab (releaseLine c) 0 (releaseCount (c .trace)))

@@ -6,8 +6,8 @@ use mathlib.Core.List.{List, []}
 use lib.Dec.{ltb}
 use lib.ListN.{length, getD}
 use Rattle.rules.specs.Words.{pick, tab}
-use Rattle.rules.specs.Limits.{maxReleases, taskWidth, releaseWidth, recordWidth}
-use Rattle.rules.specs.Case.{Case, taskCount, deadline, timeOf, nameOf}
+use Rattle.rules.specs.Limits.{maxReleases, recordWidth}
+use Rattle.rules.specs.Case.{Case, taskCount, deadline, releaseCount, timeOf, nameOf}
 use Rattle.rules.specs.Counts.{freeCounts}
 use Rattle.rules.specs.Answers.{Answer, refusal, result}
 use Rattle.rules.specs.Replay.{recordOf, runningSet}
@@ -57,8 +57,8 @@ pub record Listed (f : ℕ → List ℕ) (w at n : ℕ) (old new : List ℕ) (en
 
 -- the numbers of release j are there: its own, its task's and its record's
 pub record Stands (ts rs vs : List ℕ) (j : ℕ) : Type 0 where
-  pub listed : j * releaseWidth + 1 < length rs
+  pub listed : j < releaseCount rs
   pub named : 1 ≤ nameOf rs j
-  pub tabled : (nameOf rs j - 1) * taskWidth + 2 < length ts
+  pub tabled : nameOf rs j - 1 < taskCount ts
   pub small : timeOf rs j + deadline ts (nameOf rs j - 1) < 2 ^ 32
   pub judged : j * recordWidth + 2 < length vs

@@ -17,11 +17,10 @@ use prints::put_running;
 use prints::put_total;
 use rules::Counted;
 use rules::MAX_RELEASES;
+use rules::MAX_TASKS;
 use rules::RECORD_WIDTH;
-use rules::RELEASE_WIDTH;
 use rules::Replayed;
 use rules::Running;
-use rules::TASK_WIDTH;
 use rules::Written;
 
 // Room for the records of as many releases as a case may have.
@@ -34,10 +33,10 @@ fn put_release(out: &mut [u8], table: &[u32], trace: &[u32], records: &[u32], j:
     ensures { λ r. ⌜ Printed jobRoom (jobText (now (table .entry)) (now (trace .entry)) (now (records .entry)) j) (now (out .entry))
         (now (out .exit)) r ⌝ }
 {
-    let time = trace[j * RELEASE_WIDTH];
-    let task = trace[j * RELEASE_WIDTH + 1];
+    let time = cases::time_of(trace, j);
+    let task = cases::name_of(trace, j);
     let place = task as usize - 1;
-    let due = time + table[place * TASK_WIDTH + 2];
+    let due = time + cases::deadline_of(table, place);
     let verdict = records[j * RECORD_WIDTH];
     let finish = records[j * RECORD_WIDTH + 1];
     let demotion = records[j * RECORD_WIDTH + 2];
@@ -51,7 +50,7 @@ fn put_jobs(out: &mut [u8], at: usize, table: &[u32], trace: &[u32], records: &[
     ensures { λ r. ⌜ Listed (jobText (now (table .entry)) (now (trace .entry)) (now (records .entry))) jobRoom at
         (releaseCount (now (trace .entry))) (now (out .entry)) (now (out .exit)) r ⌝ }
 {
-    let n = trace.len() / RELEASE_WIDTH;
+    let n = cases::release_count(trace);
     let mut end = at;
     let mut j: usize = 0;
     while j < n {
@@ -81,8 +80,8 @@ pub fn put_report(
     match replayed {
         Replayed::Refused { number, place } => put_refused(out, number, place),
         Replayed::Judged { met, missed, open } => {
-            let tasks = (table.len() / TASK_WIDTH) as u32;
-            let releases = (trace.len() / RELEASE_WIDTH) as u32;
+            let tasks = cases::task_count(table) as u32;
+            let releases = cases::release_count(trace) as u32;
             let at = put_run(out, policy, procs, tasks, end);
             let last = put_jobs(out, at, table, trace, &records);
             let length = put_total(&mut out[last..], releases, met, missed, open);
@@ -114,7 +113,7 @@ pub fn put_free_counts(out: &mut [u8], procs: u32, table: &[u32]) -> usize
     requires { ⌜ countsFault procs (now table) maxTasks .number ≡ 0 ⌝ }
     ensures { λ r. ⌜ Printed printRoom (countsText procs (now (table .entry))) (now (out .entry)) (now (out .exit)) r ⌝ }
 {
-    let mut free = [0u32; 32];
+    let mut free = [0u32; MAX_TASKS];
     let counted = counts::counts(procs, table, &mut free);
     match counted {
         Counted::Refused { number, place } => put_refused(out, number, place),

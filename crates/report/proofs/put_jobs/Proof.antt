@@ -8,6 +8,7 @@ use Rattle.puts.proofs.Puts.{laid-length, part-length}
 use Rattle.prints.specs.Lines.{jobRoom}
 use Rattle.report.specs.Cases.{jobText, Listed}
 use Rattle.report.proofs.Lines.{listed-none, listed-more}
+use borrow.Author.Needs.{needs}
 use Rattle.report.proofs.put_jobs.Statement.{statement}
 use Rattle.report.proofs.put_jobs.Tie as tie
 
@@ -18,6 +19,9 @@ Inv-loop out₀ at table trace records n end₀ j₀ out end j = (j ≤ releaseC
 abbrev μ-loop : tie.MeasureT-loop
 μ-loop out₀ at table trace records n end₀ j₀ out end j = n - j
 
+release-count-requires : tie.Need-release-count-requires Inv-loop μ-loop
+release-count-requires c κs = search needs
+
 loop-holds : tie.Need-loop-holds Inv-loop μ-loop
 loop-holds c = (omega arith, listed-none _ _ _ _)
 
@@ -25,7 +29,7 @@ loop-holds c = (omega arith, listed-none _ _ _ _)
 room : (c : tie.In-loop Inv-loop μ-loop) → c .before .loop .end + jobRoom ≤ length (c .before .loop .out)
 room c =
     let l = c .before .loop in
-    omega (arith, l .inv .1 .short, laid-length (l .inv .1 .laid), c .loop-test .taken)
+    omega (arith, l .inv .1 .short, laid-length (l .inv .1 .laid), c .loop-test .taken, c .before .before .release-count .ensures)
 
 sub-put-release : tie.Need-sub-put-release Inv-loop μ-loop
 sub-put-release c = omega (arith, room c)
@@ -38,9 +42,12 @@ part-put-release-end c = omega (arith, room c)
 
 put-release-requires : tie.Need-put-release-requires Inv-loop μ-loop
 put-release-requires c κs =
-    let start = c .before .before .before .before .before .before .before in
     let l = c .before .before .loop in
-    (omega (arith, room (c .before), part-length (l .end) (l .out)), start .pre .1 (l .j) (c .before .loop-test .taken))
+    let count = c .before .before .before .release-count .ensures in
+    let start = c .before .before .before .before .before .before .before .before in (
+      omega (arith, room (c .before), part-length (l .end) (l .out)),
+      start .pre .1 (l .j) (omega (arith, c .before .loop-test .taken, count)),
+    )
 
 add-end : tie.Need-add-end Inv-loop μ-loop
 add-end c = omega (arith, room (c .before .before .before .before), c .before .before .put-release .ensures .short)
@@ -56,16 +63,18 @@ loop-again c =
     let l = c .before .before .before .before .before .loop in
     let h : l .end ≤ length (l .out) = omega (arith, room (c .before .before .before .before)) in
     let put = c .before .before .put-release .ensures in
-    (omega (arith, c .before .before .before .before .loop-test .taken), listed-more _ _ _ _ _ _ _ _ _ (l .inv .1) h put)
+    let count = c .before .before .before .before .before .before .release-count .ensures in
+    (omega (arith, c .before .before .before .before .loop-test .taken, count), listed-more _ _ _ _ _ _ _ _ _ (l .inv .1) h put)
 
 same-length : tie.Need-same-length Inv-loop μ-loop
 same-length c = laid-length (c .before .loop .inv .1 .laid)
 
 returns : tie.Need-returns Inv-loop μ-loop
 returns c =
-    let start = c .before .before .before .before .before .before in
+    let start = c .before .before .before .before .before .before .before in
     let l = c .before .loop in
-    let e : l .j ≡ releaseCount (start .args .trace .now) = omega (arith, l .inv .0, c .loop-test .left) in
+    let count = c .before .before .release-count .ensures in
+    let e : l .j ≡ releaseCount (start .args .trace .now) = omega (arith, l .inv .0, c .loop-test .left, count) in
     rw e at (l .inv .1)
 
 pub put-jobs-spec : {M : Type 1} → statement M
@@ -74,6 +83,7 @@ put-jobs-spec =
     (tie.spec
     Inv-loop
     μ-loop
+    release-count-requires
     loop-holds
     sub-put-release
     part-put-release-start

@@ -1,28 +1,17 @@
 -- `report::put_release` meets its contract: the numbers are those of the release, of its task and of its record.
+use mathlib.Core.Path.{ap, _∙_}
+use Prim.Native.Nat.{ℕ, _-_}
+use native.Mathlib.Omega.{arith}
+use Rattle.rules.specs.Case.{deadline}
 use borrow.Author.Needs.{needs}
 use Rattle.report.proofs.put_release.Statement.{statement}
 use Rattle.report.proofs.put_release.Tie as tie
 
-mul-time : tie.Need-mul-time
-mul-time c = search needs
+time-of-requires : tie.Need-time-of-requires
+time-of-requires c κs = search needs
 
-mul-time-2 : tie.Need-mul-time-2
-mul-time-2 c = search needs
-
-shared-slice-read-time : tie.Need-shared-slice-read-time
-shared-slice-read-time c = search needs
-
-mul-task : tie.Need-mul-task
-mul-task c = search needs
-
-add-task : tie.Need-add-task
-add-task c = search needs
-
-mul-task-2 : tie.Need-mul-task-2
-mul-task-2 c = search needs
-
-shared-slice-read-task : tie.Need-shared-slice-read-task
-shared-slice-read-task c = search needs
+name-of-requires : tie.Need-name-of-requires
+name-of-requires c κs = search needs
 
 cast-place : tie.Need-cast-place
 cast-place c = search needs
@@ -30,20 +19,14 @@ cast-place c = search needs
 sub-place : tie.Need-sub-place
 sub-place c = search needs
 
-mul-due : tie.Need-mul-due
-mul-due c = search needs
+deadline-of-requires : tie.Need-deadline-of-requires
+deadline-of-requires c κs = search needs
 
 add-due : tie.Need-add-due
-add-due c = search needs
-
-mul-due-2 : tie.Need-mul-due-2
-mul-due-2 c = search needs
-
-shared-slice-read-due : tie.Need-shared-slice-read-due
-shared-slice-read-due c = search needs
-
-add-due-2 : tie.Need-add-due-2
-add-due-2 c = search needs
+add-due c =
+    let start = c .before .before .before .before .before .before .before in
+    let due = c .deadline-of .ensures ∙ ap (λ (n : ℕ). deadline (start .args .table .now) (n - 1)) (c .before .name-of .ensures) in
+    omega (arith, start .pre .1 .small, due, c .before .before .time-of .ensures)
 
 mul-verdict : tie.Need-mul-verdict
 mul-verdict c = search needs
@@ -85,26 +68,21 @@ same-length : tie.Need-same-length
 same-length c = search needs
 
 returns : tie.Need-returns
-returns c = search needs
+returns c =
+    let numbers = c .before .before .before .before .before .before .before in
+    rw (← numbers .before .before .time-of .ensures, ← numbers .before .name-of .ensures, ← numbers .deadline-of .ensures)
+    (c .before .before .put-job .ensures)
 
 pub put-release-spec : {M : Type 1} → statement M
 put-release-spec =
     tie.close
     (tie.spec
-    mul-time
-    mul-time-2
-    shared-slice-read-time
-    mul-task
-    add-task
-    mul-task-2
-    shared-slice-read-task
+    time-of-requires
+    name-of-requires
     cast-place
     sub-place
-    mul-due
+    deadline-of-requires
     add-due
-    mul-due-2
-    shared-slice-read-due
-    add-due-2
     mul-verdict
     mul-verdict-2
     shared-slice-read-verdict

@@ -30,15 +30,21 @@ put-refused-requires c κs = search needs
 enum-known-replayed-2 : tie.Need-enum-known-replayed-2
 enum-known-replayed-2 c = search needs
 
+task-count-requires : tie.Need-task-count-requires
+task-count-requires c κs = search needs
+
 cast-tasks : tie.Need-cast-tasks
 cast-tasks c =
-    let start = c .before .before .before .before .before .before .before .before .before in
-    omega (arith, legal _ (start .pre .1) .tasks-few)
+    let start = c .before .before .before .before .before .before .before .before .before .before in
+    omega (arith, legal _ (start .pre .1) .tasks-few, c .task-count .ensures)
+
+release-count-requires : tie.Need-release-count-requires
+release-count-requires c κs = search needs
 
 cast-releases : tie.Need-cast-releases
 cast-releases c =
-    let start = c .before .before .before .before .before .before .before .before .before in
-    omega (arith, legal _ (start .pre .1) .releases-few)
+    let start = c .before .before .before .before .before .before .before .before .before .before .before in
+    omega (arith, legal _ (start .pre .1) .releases-few, c .release-count .ensures)
 
 put-run-requires : tie.Need-put-run-requires
 put-run-requires c κs = search needs
@@ -48,8 +54,9 @@ slice-aggregate-put-jobs c = search needs
 
 put-jobs-requires : tie.Need-put-jobs-requires
 put-jobs-requires c κs =
-    let start = c .before .before .before .before .before .before .before .before .before .before .before .before .before .before .before in
-    let replay = c .before .before .before .before .before .before .before .before .before .before .replay in
+    let at-replay = c .before .before .before .before .before .before .before .before .before .before .before .before in
+    let start = at-replay .before .before .before .before .before in
+    let replay = at-replay .replay in
     let ok = start .pre .1 in
     let run = c .before .before .before .before .put-run in
     let fit = fits _ ok _ _ (replay .ensures .left) (replay-fits _ ok) in
@@ -61,7 +68,8 @@ room : (c : tie.After-put-jobs) → (c .put-jobs .result + lineRoom ≤ length (
 room c =
     let run = c .before .before .before .before .before .put-run in
     let start =
-    c .before .before .before .before .before .before .before .before .before .before .before .before .before .before .before .before in
+    c .before .before .before .before .before .before .before .before .before .before .before .before .before .before .before .before
+    .before .before in
     omega (
       arith,
       c .put-jobs .ensures .short,
@@ -107,7 +115,7 @@ returns-2 c =
     let at-total = c .before .before in
     let at-jobs = at-total .before .before .before .before in
     let at-run = at-jobs .before .before .before .before .before in
-    let at-judged = at-run .before .before .before in
+    let at-judged = at-run .before .before .before .before .before in
     let at-replay = at-judged .before .before .before in
     let start = at-replay .before .before .before .before .before in
     let total = at-total .put-total in
@@ -120,10 +128,10 @@ returns-2 c =
     record {
       laid = report-laid _ _ _ _ _ (linesText (jobText (start .args .table .now) (start .args .trace .now) (replay .last .1 .1 .1 .1 .1 .0))
           (releaseCount (start .args .trace .now))) _ _ _ _ _ _
-          (run .ensures .laid)
+          (rw (at-run .before .before .before .task-count .ensures) at (run .ensures .laid))
           (jobs .ensures .laid)
           (jobs-are _ (start .pre .1) _ _ (replay .ensures .left) fit)
-          (laid-part _ _ _ _ _ h (total .ensures .laid))
+          (laid-part _ _ _ _ _ h (rw (at-run .before .before .release-count .ensures) at (total .ensures .laid)))
           (replay-totals _ _ _ fit (replay .ensures .answer) _ _ _ judged);
       short = omega (arith, room at-jobs, total .ensures .short);
     }
@@ -137,7 +145,9 @@ put-report-spec =
     enum-known-replayed
     put-refused-requires
     enum-known-replayed-2
+    task-count-requires
     cast-tasks
+    release-count-requires
     cast-releases
     put-run-requires
     slice-aggregate-put-jobs
