@@ -15,7 +15,7 @@ use Rattle.rules.specs.Reader.{caseOrder, linesFault, noCase, withLine, withLin
 use Rattle.rules.specs.Writer.{procsText, policyText, taskText, endText, releaseText, caseText}
 use Rattle.legal.specs.Legal.{Legal, legal}
 use Rattle.texts.specs.Fields.{All}
-use Rattle.roundtrip.specs.LineTrip.{wordOf, fieldsIn, lineBytes, Below}
+use Rattle.roundtrip.specs.LineTrip.{wordIn, fieldsIn, lineBytes, Below}
 use Rattle.roundtrip.specs.Lines.{textOf, textOf-append, textOf-tab}
 use Rattle.roundtrip.specs.Lengths.{text-long}
 use Rattle.roundtrip.specs.Listed.{rowAt, releaseAt, allListed, Kind, rows-list, releases-list, listed-back, lines-back, listed-long}
@@ -34,7 +34,7 @@ caseLines c = Procs (c .procs) ∷ Policy (c .policy) ∷ (rowLines (c .table) +
 
 -- the text of a case is the text of its lines
 pub case-text : (c : Case) → caseText c ≡ textOf (caseLines c)
-unfolding caseText caseLines textOf procsText policyText taskText endText releaseText lineBytes wordOf fieldsIn rowAt releaseAt
+unfolding caseText caseLines textOf procsText policyText taskText endText releaseText lineBytes wordIn fieldsIn rowAt releaseAt
 case-text c =
     let rows = rowLines (c .table) in
     let releases = releaseLines (c .trace) in

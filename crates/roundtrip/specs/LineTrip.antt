@@ -20,13 +20,13 @@ use Rattle.texts.specs.Fields.{same-true, upTo-seam, upTo-none, past-seam, Plai
 
 -- ---- what is written of what a line says
 -- its word
-unfoldable pub wordOf : Line → List ℕ
-wordOf Bad = []
-wordOf (Procs m) = procsWord
-wordOf (Policy p) = policyWord
-wordOf (Row T C D) = taskWord
-wordOf (End e) = endWord
-wordOf (Release t n) = releaseWord
+unfoldable pub wordIn : Line → List ℕ
+wordIn Bad = []
+wordIn (Procs m) = procsWord
+wordIn (Policy p) = policyWord
+wordIn (Row T C D) = taskWord
+wordIn (End e) = endWord
+wordIn (Release t n) = releaseWord
 
 -- its fields
 unfoldable pub fieldsIn : Line → List (List ℕ)
@@ -39,22 +39,22 @@ fieldsIn (Release t n) = digitsOf t ∷ digitsOf n ∷ []
 
 -- the line without its newline, and with it
 unfoldable pub lineBody : Line → List ℕ
-lineBody l = parted (wordOf l) (fieldsIn l)
+lineBody l = parted (wordIn l) (fieldsIn l)
 
 unfoldable pub lineBytes : Line → List ℕ
-lineBytes l = lineText tabByte (wordOf l) (fieldsIn l)
+lineBytes l = lineText tabByte (wordIn l) (fieldsIn l)
 
 pub bytes-body : (l : Line) → lineBytes l ≡ lineBody l ++ (newlineByte ∷ [])
 unfolding lineBytes lineBody
-bytes-body l = line-parted (wordOf l) (fieldsIn l)
+bytes-body l = line-parted (wordIn l) (fieldsIn l)
 
 -- a line that says something
 unfoldable pub Said : Line → Type 0
 Said l = kindOf l ≡ 0 → ⊥
 
 -- ---- neither tab nor newline stands in a word or a field
-pub word-plain : (l : Line) → Plain (wordOf l)
-unfolding wordOf has
+pub word-plain : (l : Line) → Plain (wordIn l)
+unfolding wordIn has
 word-plain Bad = record { no-tab = refl; no-newline = refl }
 word-plain (Procs m) = record { no-tab = refl; no-newline = refl }
 word-plain (Policy p) = record { no-tab = refl; no-newline = refl }
@@ -115,8 +115,8 @@ policy-written : (p : ℕ) → p ≤ maxPolicy → policyIn (policyName p) ≡ P
 unfolding policyIn
 policy-written p h = rw (name-found p h)
 
-word-kind : (l : Line) → wordKind (wordOf l) ≡ kindOf l
-unfolding wordKind wordOf same
+word-kind : (l : Line) → wordKind (wordIn l) ≡ kindOf l
+unfolding wordKind wordIn same
 word-kind Bad = refl
 word-kind (Procs m) = refl
 word-kind (Policy p) = refl
@@ -127,12 +127,12 @@ word-kind (Release t n) = refl
 -- the first field of a line that is written is its word
 pub body-kind : (l : Line) → wordKind (fieldOf (lineBody l)) ≡ kindOf l
 unfolding lineBody
-body-kind l = ap wordKind (field-first (wordOf l) (fieldsIn l) (word-plain l)) ∙ word-kind l
+body-kind l = ap wordKind (field-first (wordIn l) (fieldsIn l) (word-plain l)) ∙ word-kind l
 
 -- a word and fields: the word's kind says what the fields say
-parted-says : (l : Line) (f : List ℕ) (fs : List (List ℕ)) → lineSays (parted (wordOf l) (f ∷ fs)) ≡ fieldsSay (kindOf l) (parted f fs)
+parted-says : (l : Line) (f : List ℕ) (fs : List (List ℕ)) → lineSays (parted (wordIn l) (f ∷ fs)) ≡ fieldsSay (kindOf l) (parted f fs)
 unfolding lineSays
-parted-says l f fs = rw (field-first (wordOf l) (f ∷ fs) (word-plain l), field-others (wordOf l) f fs (word-plain l), word-kind l)
+parted-says l f fs = rw (field-first (wordIn l) (f ∷ fs) (word-plain l), field-others (wordIn l) f fs (word-plain l), word-kind l)
 
 -- what is written of what a line says, its newline apart, says that
 pub written-says : (b : ℕ) (l : Line) → b ≤ 10 ^ 9 → Below b l → lineSays (lineBody l) ≡ l
@@ -180,15 +180,15 @@ unfolding Said
 returns-bad s h = absurd (h refl)
 
 returns-fields : (s : List ℕ) (l : Line) (g : List ℕ) (gs : List (List ℕ))
-    → same (fieldOf s) (wordOf l) ≡ true → afterField s ≡ parted g gs → 1 ≤ length g → fieldsIn l ≡ g ∷ gs → Returns s l
+    → same (fieldOf s) (wordIn l) ≡ true → afterField s ≡ parted g gs → 1 ≤ length g → fieldsIn l ≡ g ∷ gs → Returns s l
 unfolding fieldOf afterField lineBody
 returns-fields s l g gs p q n e h =
     bytes-body l ∙ ap (λ (t : List ℕ). t ++ (newlineByte ∷ []))
-    (ap (parted (wordOf l)) e ∙ sym (parted-cons s (wordOf l) g gs (same-true (fieldOf s) (wordOf l) p) q n))
+    (ap (parted (wordIn l)) e ∙ sym (parted-cons s (wordIn l) g gs (same-true (fieldOf s) (wordIn l) p) q n))
 
 -- a line that is not badly formed is what is written of what it says
 pub says-written : (s : List ℕ) → Returns s (lineSays s)
-unfolding lineSays wordKind fieldsSay wordOf fieldsIn parted
+unfolding lineSays wordKind fieldsSay wordIn fieldsIn parted
 says-written s =
     let w = fieldOf s in
     let f = afterField s in

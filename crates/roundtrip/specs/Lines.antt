@@ -14,7 +14,7 @@ use Rattle.rules.specs.Reader.{lineSays, linesIn, linesOf}
 use Rattle.rules.specs.Writer.{joinedText}
 use Rattle.texts.specs.Fields.{All, parted-no-newline}
 use Rattle.texts.specs.LinesOf.{line-cut, afterLine-less, lineOf-cons, afterLine-cons, linesOf-nil, linesOf-cons}
-use Rattle.roundtrip.specs.LineTrip.{wordOf, fieldsIn, lineBody, lineBytes, bytes-body, Said, word-plain, fields-plain, Below}
+use Rattle.roundtrip.specs.LineTrip.{wordIn, fieldsIn, lineBody, lineBytes, bytes-body, Said, word-plain, fields-plain, Below}
 use Rattle.roundtrip.specs.LineTrip.{written-says, says-written}
 
 -- ---- the text of lines
@@ -36,7 +36,7 @@ textOf-tab f k (suc n) = ap (λ (t : List ℕ). lineBytes (f k) ++ t) (textOf-ta
 -- what a line says, without its newline, has none
 body-no-newline : (l : Line) → has newlineByte (lineBody l) ≡ false
 unfolding lineBody
-body-no-newline l = parted-no-newline (wordOf l) (fieldsIn l) (word-plain l) (fields-plain l)
+body-no-newline l = parted-no-newline (wordIn l) (fieldsIn l) (word-plain l) (fields-plain l)
 
 pub textOf-cons : (l : Line) (ls : List Line) → textOf (l ∷ ls) ≡ lineBody l ++ (newlineByte ∷ textOf ls)
 unfolding textOf

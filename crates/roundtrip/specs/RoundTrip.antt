@@ -18,7 +18,7 @@ use Rattle.rules.specs.Reader.{caseWithDefault, caseIn, textFault}
 use Rattle.rules.specs.Writer.{policyText, caseText}
 use Rattle.legal.specs.Legal.{legal}
 use Rattle.texts.specs.Passing.{text-clear, text-none}
-use Rattle.roundtrip.specs.LineTrip.{wordOf, fieldsIn, lineBytes, body-kind}
+use Rattle.roundtrip.specs.LineTrip.{wordIn, fieldsIn, lineBytes, body-kind}
 use Rattle.roundtrip.specs.Lines.{textOf, textOf-cons, lineOf-text, afterLine-text, lines-written, lines-read}
 use Rattle.roundtrip.specs.Orders.{all-said, body-tail, Ordered, ordered-of}
 use Rattle.roundtrip.specs.CaseLines.{caseLines, case-text, lines-hold, lines-held, lines-below, lines-clear, text-fits}
@@ -57,7 +57,7 @@ given-second k l ls = rw (afterLine-text k (l ∷ ls), lineOf-text l ls, body-ki
 
 policy-put-in : (k l : Line) (ls : List Line) → kindOf l ≡ 3
     → withPolicy (textOf (k ∷ l ∷ ls)) ≡ textOf (k ∷ Policy policyWhenAbsent ∷ l ∷ ls)
-unfolding withPolicy textOf policyText lineBytes wordOf fieldsIn
+unfolding withPolicy textOf policyText lineBytes wordIn fieldsIn
 policy-put-in k l ls e =
     rw (given-second k l ls, e, lineOf-text k (l ∷ ls), afterLine-text k (l ∷ ls)) (sym (textOf-cons k (Policy policyWhenAbsent ∷ l ∷ ls)))
 

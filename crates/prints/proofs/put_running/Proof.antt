@@ -35,6 +35,15 @@ part-put-line-end c =
     let put = c .before .before .before .put-members in
     omega (arith, put .ensures .behind, put .kept .0, members-few (c .before .before .before .before .before .before .args .set) maxTasks)
 
+-- what is said, first: the room is the same whatever the numbers are
+returns : tie.Need-returns
+unfolding wordOf runningLine
+returns c =
+    let put = c .before .before .put-line in
+    let start = c .before .before .before .before .before .before .before .before .before .before in
+    line-printed 10 (start .args .slot ∷ membersOf (start .args .set) maxTasks) (omega (arith, members-few (start .args .set) maxTasks))
+    (rw (numbers (c .before .before .before .before .before .before .before)) at (put .ensures))
+
 put-line-requires : tie.Need-put-line-requires
 put-line-requires c κs =
     let start = c .before .before .before .before .before .before .before in
@@ -44,14 +53,6 @@ put-line-requires c κs =
 
 same-length : tie.Need-same-length
 same-length c = search needs
-
-returns : tie.Need-returns
-unfolding wordOf runningLine
-returns c =
-    let put = c .before .before .put-line in
-    let start = c .before .before .before .before .before .before .before .before .before .before in
-    line-printed 10 (start .args .slot ∷ membersOf (start .args .set) maxTasks) (omega (arith, members-few (start .args .set) maxTasks))
-    (rw (numbers (c .before .before .before .before .before .before .before)) at (put .ensures))
 
 pub put-running-spec : {M : Type 1} → statement M
 put-running-spec =
