@@ -32,11 +32,13 @@ replay-run-requires c κs =
     (w .0, (c .before .free-counts .ensures, w .1))
 
 -- the records are in the room, and there are few
-fits : (d : tie.After-release-count) → (d .release-count .result * recordWidth ≤ length (d .before .before .before .replay-run .last .1 .1 .1 .1 .1 .1 .0))
+fits : (d : tie.After-release-count) → (d .release-count .result * recordWidth
+    ≤ length (d .before .before .before .replay-run .last .1 .1 .1 .1 .1 .1 .0))
     × (d .release-count .result ≤ maxReleases)
 fits d =
     let run = d .before .before .before in
-    let w = replay-clear _ _ (clear _ _ (run .before .before .before .before .replay-fault .ensures) (run .before .before .before .if1 .left)) in
+    let w = replay-clear _ _ (clear _ _ (run .before .before .before .before .replay-fault .ensures)
+    (run .before .before .before .if1 .left)) in
     rw (d .release-count .ensures) (still-fits _ _ _ (run .replay-run .ensures), legal _ (w .0) .releases-few)
 
 release-count-requires : tie.Need-release-count-requires

@@ -21,7 +21,8 @@ walk-requires : tie.Need-walk-requires
 walk-requires c κs =
     let at-records = c .before .before .before .before in
     let q = at-records .before .before .before .before .before .before .pre in
-    let o = room-open _ (legal _ (q .0)) _ _ (rw (at-records .before .before .release-count .ensures) at (at-records .open-records .ensures)) in
+    let o = room-open _ (legal _ (q .0)) _ _
+    (rw (at-records .before .before .release-count .ensures) at (at-records .open-records .ensures)) in
     (q .0, (q .1 .0, (c .before .fresh-run .ensures, (omega arith, λ z. o ∙ sym (same-room _ 0 0 _ _ o)))))
 
 same-length : tie.Need-same-length
@@ -32,7 +33,8 @@ unfolding roomAfter
 returns c =
     let at-records = c .before .before .before .before .before .before .before in
     let start = at-records .before .before .before .before .before .before in
-    let o = room-open _ (legal _ (start .pre .0)) _ _ (rw (at-records .before .before .release-count .ensures) at (at-records .open-records .ensures)) in
+    let o = room-open _ (legal _ (start .pre .0)) _ _
+    (rw (at-records .before .before .release-count .ensures) at (at-records .open-records .ensures)) in
     c .before .before .walk .ensures .1 refl ∙ same-room _ 0 _ _ _ o
 
 pub replay-run-spec : {M : Type 1} → statement M

@@ -17,12 +17,14 @@ abbrev μ-loop : tie.MeasureT-loop
 μ-loop trace from clock place₀ released₀ n k₀ place released k = n - k
 
 -- the release at hand is one of the trace, and names one of the tasks that a run has
-more : (c : tie.After-name-of Inv-loop μ-loop) → c .before .before .before .before .loop .k < releaseCount (c .before .before .before .before .before .before .before .before .args .trace .now)
+more : (c : tie.After-name-of Inv-loop μ-loop) → c .before .before .before .before .loop .k
+    < releaseCount (c .before .before .before .before .before .before .before .before .args .trace .now)
 more c = omega (arith, c .before .before .before .loop-test .taken, c .before .before .before .before .before .release-count .ensures)
 
 named : (c : tie.After-name-of Inv-loop μ-loop) → (1 ≤ c .name-of .result) × (c .name-of .result ≤ maxTasks)
 named c =
-    let w = c .before .before .before .before .before .before .before .before .pre .0 .named (c .before .before .before .before .loop .k) (more c) in
+    let w = c .before .before .before .before .before .before .before .before .pre .0 .named (c .before .before .before .before .loop .k)
+    (more c) in
     (omega (arith, w .0, c .name-of .ensures), omega (arith, w .1, c .name-of .ensures))
 
 release-count-requires : tie.Need-release-count-requires Inv-loop μ-loop
@@ -71,14 +73,16 @@ loop-again c =
 returns : tie.Need-returns Inv-loop μ-loop
 returns c =
     let l = c .before .before .before .loop in
-    let t = taking-done _ _ (l .k) _ _ (c .before .before .before .before .before .before .before .pre .0) (λ h e. c .if1 .left (c .before .time-of .ensures ∙ e)) (l .inv .1) in
+    let t = taking-done _ _ (l .k) _ _ (c .before .before .before .before .before .before .before .pre .0)
+    (λ h e. c .if1 .left (c .before .time-of .ensures ∙ e)) (l .inv .1) in
     (t .reached, t .at-place, t .at-released)
 
 returns-2 : tie.Need-returns-2 Inv-loop μ-loop
 returns-2 c =
     let l = c .before .loop in
     let count = c .before .before .release-count .ensures in
-    let t = taking-done _ _ (l .k) _ _ (c .before .before .before .before .before .pre .0) (λ h e. omega (arith, c .loop-test .left, count)) (l .inv .1) in
+    let t = taking-done _ _ (l .k) _ _ (c .before .before .before .before .before .pre .0) (λ h e. omega (arith, c .loop-test .left, count))
+    (l .inv .1) in
     (t .reached, t .at-place, t .at-released)
 
 pub take-releases-spec : {M : Type 1} → statement M
