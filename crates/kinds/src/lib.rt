@@ -1,8 +1,9 @@
 // What one line of a case text says: its word gives its kind, its kind what its fields are, and its kind where it may stand.
 ghost use mathlib.Core.Path.{_≡_};
+ghost use mathlib.Core.Bool.{true};
 ghost use Rattle.rules.specs.Reader.{oneNumber, twoNumbers, threeNumbers, policyIn, wordKind, fieldsSay, mayFollow};
 ghost use Rattle.rules.specs.declared.Line.the-variants.{Procs, Row, End, Release};
-ghost use Rattle.kinds.specs.Says.{Says};
+ghost use Rattle.kinds.specs.Says.{Says, StartsRelease};
 use rules::END;
 use rules::Line;
 use rules::Num;
@@ -134,13 +135,28 @@ pub fn line_says(s: &[u8]) -> Said
     Said { kind, line }
 }
 
+// Where the fields of a release start: behind its word and a tab.
+const RELEASE_FIELDS: usize = 8;
+
+// Whether a line starts with the word of a release and a tab. The tab is looked for where it has to stand, and not along the word.
+fn starts_release(s: &[u8]) -> bool
+    ensures { λ r. ⌜ (r ≡ true → StartsRelease (now (s .entry))) ⌝ }
+{
+    if s.len() < RELEASE_FIELDS {
+        return false;
+    }
+    if s[RELEASE_FIELDS - 1] != b'\t' {
+        return false;
+    }
+    same_bytes(&s[0..RELEASE_FIELDS - 1], b"release")
+}
+
 // The same, for a line that is most likely a release, as nearly all lines of a text are: that word is looked for first.
 pub fn release_says(s: &[u8]) -> Said
     ensures { λ r. ⌜ Says (now (s .entry)) r ⌝ }
 {
-    let word = field(s);
-    if same_bytes(word, b"release") {
-        let line = release_fields(after_field(s, word.len()));
+    if starts_release(s) {
+        let line = release_fields(&s[RELEASE_FIELDS..]);
         return Said {
             kind: RELEASE,
             line,
