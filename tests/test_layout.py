@@ -9,7 +9,7 @@ import kit
 
 WIDEST = 140
 LONGEST = 40
-LIMITS = ("2000", "4000", "4002", "60000", "100000")
+LIMITS = ("2000", "4000", "4002", "10000", "60000", "100000")
 NAMING = ("crates/rules/specs/Limits.antt", "crates/rules/src/lib.rt")
 
 

@@ -26,7 +26,8 @@ use Rattle.wishes.specs.declared.Wish.the-variants.{Unknown, Help, Replay, Coun
 use Rattle.answers.proofs.Taken.{refused-fault, text-clear, case-read}
 
 module _ (w : Wish) (s ts rs : List ℕ) (x : Taken) (h : takenAs x ≡ readAnswer s ts rs) where
-  pub fault-refused : (n p : ℕ) → x ≡ Taken·.Refused n p → maxTasks * taskWidth ≡ length ts → maxReleases * releaseWidth ≡ length rs
+  pub fault-refused : (n p : ℕ) → x ≡ Taken·.Refused n p → maxTasks * taskWidth ≡ length ts
+      → maxReleases * releaseWidth ≡ length rs
       → faultOf n p ≡ wishFault w s
   unfolding wishFault
   fault-refused n p e a b =

@@ -21,7 +21,8 @@ use Rattle.wishes.specs.declared.Wish.{Wish}
 use Rattle.answers.proofs.Taken.{refused-text, tasks-few, releases-few, tasks-long, releases-long, case-stands, case-says}
 
 -- ---- the reader
-pub refusal-put : (t : Taken) (n p : ℕ) (old new : List ℕ) (k : ℕ) → t ≡ Taken·.Refused n p → Printed lineRoom (refusedLine n p) old new k
+pub refusal-put : (t : Taken) (n p : ℕ) (old new : List ℕ) (k : ℕ) → t ≡ Taken·.Refused n p
+    → Printed lineRoom (refusedLine n p) old new k
     → Printed lineRoom (refusalText (takenAs t)) old new k
 refusal-put t n p old new k e q = rw e q
 
@@ -36,7 +37,8 @@ pub refusal-shown : (s ts rs : List ℕ) (w : Wish) (t : Taken) (n p : ℕ) (old
     → Printed lineRoom (refusalText (takenAs t)) old new k
     → Printed printRoom (textSays w s) old new k
 refusal-shown s ts rs w t n p old new k e h a b q =
-    let l : refusedLine n p ≡ textSays w s = refused-text s ts rs n p (omega (arith, a)) (omega (arith, b)) (sym (ap takenAs e) ∙ h) w in
+    let l : refusedLine n p ≡ textSays w s =
+    refused-text s ts rs n p (omega (arith, a)) (omega (arith, b)) (sym (ap takenAs e) ∙ h) w in
     rw l at (line-fits (rw e at q))
 
 module _ (s ts rs : List ℕ) (t : Taken) (m p e n k : ℕ) (q : t ≡ Taken·.Read m p e n k) (h : takenAs t ≡ readAnswer s ts rs) where

@@ -83,7 +83,8 @@ module _ (c : Case) (t i : ℕ) (l : i < maxTasks) where
       rw (a, b, d)
 
   -- one that is there and does not finish is missed at t + 1 where its deadline is then
-  missed-due : isPresent (openAt c t i) ≡ true → fin ≡ false → t < dueOf (openAt c t i) → leb (dueOf (openAt c t i)) (suc t) ≡ missed-next
+  missed-due : isPresent (openAt c t i) ≡ true → fin ≡ false → t < dueOf (openAt c t i)
+      → leb (dueOf (openAt c t i)) (suc t) ≡ missed-next
   missed-due p e h =
       let s = stays (openAt c t i) (ranAt c t i) p (sym (finished-at c i l t) ∙ e) in
       just-come t (dueOf (openAt c t i)) h ∙ sym (missed-here ∙ rw (s .there, s .due))
@@ -97,13 +98,15 @@ module _ (c : Case) (t i : ℕ) (l : i < maxTasks) where
       pub within : p < releaseCount (c .trace)
       pub its : nameOf (c .trace) p ≡ suc i
       pub new : recordBy c (suc t) p ≡ entry t fin dem missed-next (recordBy c t p .demotion)
-      pub others : (j : ℕ) → j < releaseCount (c .trace) → nameOf (c .trace) j ≡ suc i → (j ≡ p → ⊥) → recordBy c (suc t) j ≡ recordBy c t j
+      pub others : (j : ℕ) → j < releaseCount (c .trace) → nameOf (c .trace) j ≡ suc i → (j ≡ p → ⊥)
+          → recordBy c (suc t) j ≡ recordBy c t j
 
     there : isPresent (openAt c t i) ≡ true → Lives c g t k w i l → Entered
     there e v = record {
       within = v .within;
       its = v .its;
-      new = v .new ∙ noted-entry t (dueOf (openAt c t i)) (recordBy c t p .demotion) fin dem missed-next (λ f. missed-due e f (v .early));
+      new = v .new ∙ noted-entry t (dueOf (openAt c t i))
+          (recordBy c t p .demotion) fin dem missed-next (λ f. missed-due e f (v .early));
       others = v .others;
     }
 

@@ -41,7 +41,8 @@ released-yes rs (suc n) t i j h e f = go (released-yes rs n t i j) (eq-or-lt-of-
         rw (eq-eqb (timeOf rs n) t x, eq-eqb (nameOf rs n) (suc i) y) (or-true (releasedIn rs n t i))
     go ih (inr q) = rw (ih q e f)
 
-pub released-no : (rs : List ℕ) (n t i : ℕ) → ((j : ℕ) → j < n → timeOf rs j ≡ t → nameOf rs j ≡ suc i → ⊥) → releasedIn rs n t i ≡ false
+pub released-no : (rs : List ℕ) (n t i : ℕ) → ((j : ℕ) → j < n → timeOf rs j ≡ t → nameOf rs j ≡ suc i → ⊥)
+    → releasedIn rs n t i ≡ false
 unfolding releasedIn
 released-no rs zero t i h = refl
 released-no rs (suc n) t i h =
@@ -49,7 +50,8 @@ released-no rs (suc n) t i h =
     (and-no (eqb (timeOf rs n) t) (eqb (nameOf rs n) (suc i)) (λ p q. h n (omega arith) (eqb-true _ _ p) (eqb-true _ _ q)))
 
 -- a release of the set is one of the trace
-pub released-some : (rs : List ℕ) (n t i : ℕ) → releasedIn rs n t i ≡ true → (j : ℕ) × ((j < n) × (timeOf rs j ≡ t) × (nameOf rs j ≡ suc i))
+pub released-some : (rs : List ℕ) (n t i : ℕ) → releasedIn rs n t i ≡ true
+    → (j : ℕ) × ((j < n) × (timeOf rs j ≡ t) × (nameOf rs j ≡ suc i))
 unfolding releasedIn
 released-some rs zero t i e = absurd (false≢true e)
 released-some rs (suc n) t i e = go (releasedIn rs n t i) refl (released-some rs n t i) e
@@ -117,7 +119,8 @@ module _ (c : Case) (i : ℕ) (l : i < maxTasks) where
   idle-ready t r e = rw (r, e)
 
   -- while nothing is released, a task that was idle stays so
-  pub stays-idle : (t n : ℕ) → ((u : ℕ) → t < u → u ≤ t + n → releasedAt c u i ≡ false) → readyAt c t i ≡ Idle → readyAt c (t + n) i ≡ Idle
+  pub stays-idle : (t n : ℕ) → ((u : ℕ) → t < u → u ≤ t + n → releasedAt c u i ≡ false) → readyAt c t i ≡ Idle
+      → readyAt c (t + n) i ≡ Idle
   stays-idle t zero h e = rw (add-zero t) e
   stays-idle t (suc n) h e =
       rw (add-suc t n) (idle-ready (suc (t + n)) (h (suc (t + n)) (omega arith) (omega arith))

@@ -74,7 +74,8 @@ replay-next c t = sym (state-next c t)
 pub replay-state : (c : Case) (t : ℕ) → stateIn (replayOf c) t ≡ stateAt c t
 unfolding stateIn stateAt stateFrom
 replay-state c zero = refl
-replay-state c (suc t) = ap (λ (r : Run). worked (ranAt c t) (opened (setupIn c) t (releasedAt c t) r)) (replay-state c t) ∙ replay-next c t
+replay-state c (suc t) = ap (λ (r : Run). worked (ranAt c t) (opened (setupIn c) t (releasedAt c t) r)) (replay-state c t)
+    ∙ replay-next c t
 
 pub replay-demoted : (c : Case) (t i : ℕ) → demotedIn (replayOf c) t i ≡ demotedAt c t i
 unfolding demotedIn demotedAt

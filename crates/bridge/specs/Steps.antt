@@ -125,7 +125,8 @@ module _ (i : ℕ) (l : i < maxTasks) where
       let e = demoted-at g (readied g now s r) f ∙ ap (demotedJob (demoting (g .policy))) (readied-at g now s r h) in
       let d = demoted g (readied g now s r) in
       pick-run (lowers g now s r) (eachTask (λ i t. loweredTask t) d) d i ∙
-      ap₂ (pick (lowers g now s r)) (ap (λ (t : Task). t .job) (each-at (λ i t. loweredTask t) _ (demoted-full g _ f)) ∙ ap loweredJob e) e
+      ap₂ (pick (lowers g now s r)) (ap (λ (t : Task). t .job) (each-at (λ i t. loweredTask t) _ (demoted-full g _ f))
+      ∙ ap loweredJob e) e
 
   pub worked-at : (s : TaskSet) (r : Run) → Full r → jobAt (worked s r) i ≡ pick (s i) (workedJob (jobAt r i)) (jobAt r i)
   unfolding worked

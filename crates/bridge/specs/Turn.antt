@@ -61,7 +61,8 @@ pub record Reached (rs : List ℕ) (k t : ℕ) : Type 0 where
 module _ (c : Case) (g : Legal c) (t k : ℕ) (w : Reached (c .trace) k (suc t)) where
   -- a record stays where its job is not there
   keep : (j : ℕ) → j < releaseCount (c .trace)
-      → (timeOf (c .trace) j ≤ t → t < timeOf (c .trace) j + deadline (c .table) (taskAt c j) → isPresent (openAt c t (taskAt c j)) ≡ false)
+      → (timeOf (c .trace) j ≤ t → t < timeOf (c .trace) j + deadline (c .table) (taskAt c j)
+      → isPresent (openAt c t (taskAt c j)) ≡ false)
       → recordBy c (suc t) j ≡ recordBy c t j
   unfolding recordBy
   keep j h f = go (decLt t a) (decLe (a + D) t)
@@ -99,7 +100,8 @@ module _ (c : Case) (g : Legal c) (t k : ℕ) (w : Reached (c .trace) k (suc t))
       pub early : t < dueOf (openAt c t i)
       pub old : recordBy c t p ≡ recordOf 3 0 (recordBy c t p .demotion)
       pub new : recordBy c (suc t) p ≡ noted t (finishedAt c t i) (demotedAt c t i) (dueOf (openAt c t i)) (recordBy c t p .demotion)
-      pub others : (j : ℕ) → j < releaseCount (c .trace) → nameOf (c .trace) j ≡ suc i → (j ≡ p → ⊥) → recordBy c (suc t) j ≡ recordBy c t j
+      pub others : (j : ℕ) → j < releaseCount (c .trace) → nameOf (c .trace) j ≡ suc i → (j ≡ p → ⊥)
+          → recordBy c (suc t) j ≡ recordBy c t j
 
     idle-open : readyAt c t i ≡ Idle → isPresent (openAt c t i) ≡ false
     idle-open e = kept-at c t i .there ∙ ap isPresent e
@@ -160,7 +162,8 @@ module _ (c : Case) (g : Legal c) (t k : ℕ) (w : Reached (c .trace) k (suc t))
                     → jobRecord c i (timeOf (c .trace) p) (suc t)
                     ≡ noted t (finishedAt c t i) (demotedAt c t i) (timeOf (c .trace) p + deadline (c .table) i)
                     (demotionBy c i (timeOf (c .trace) p) t)
-                    → recordBy c (suc t) p ≡ noted t (finishedAt c t i) (demotedAt c t i) (dueOf (openAt c t i)) (recordBy c t p .demotion)
+                    → recordBy c (suc t) p ≡ noted t (finishedAt c t i) (demotedAt c t i) (dueOf (openAt c t i))
+                    (recordBy c t p .demotion)
                 fresh-record z a b = rw (z, a) b
 
                 other : (j : ℕ) → j < releaseCount (c .trace) → nameOf (c .trace) j ≡ suc i → (j ≡ p → ⊥)

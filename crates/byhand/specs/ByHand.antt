@@ -15,7 +15,8 @@ use Rattle.rules.specs.Slot.{present, judged, joined, demoted, jobsNow, content
 use Rattle.rules.specs.Slot.{after, ran, finished, missed, demotedNow, setNumber}
 use Rattle.rules.specs.Replay.{releasedIn, stateFrom, stateAt, ranAt, finishedAt, demotedAt, slotsBy, finishBy, demotionBy, verdictBy}
 use Rattle.rules.specs.Replay.{recordBy, marked, numbers, Record, recordOf, records}
-use Rattle.rules.specs.Refusals.{orNext, firstOf, procsFault, policyFault, tableFault, taskFault, endFault, traceFault, inOrder, lastBefore}
+use Rattle.rules.specs.Refusals.{orNext, firstOf, procsFault, policyFault, tableFault, taskFault, endFault, traceFault, inOrder}
+use Rattle.rules.specs.Refusals.{lastBefore}
 use Rattle.rules.specs.Refusals.{releaseFault, roomFault, slotFault, caseFault, countsFault, replayFault, runningFault}
 use Rattle.rules.specs.Answers.{Answer, result, settled, kept}
 use Rattle.rules.specs.Calls.{countsAnswer, countsRoom, roomAfter, replayAnswer, replayRoom, runningAnswer}
@@ -118,11 +119,13 @@ abbrev pub counts-B : Entry
 counts-B = entry (counting 2 tableB (9 ∷ 9 ∷ 9 ∷ [])) (leaving (3 ∷ []) (0 ∷ 0 ∷ 1 ∷ []))
 
 abbrev pub B-10 : ℕ → Entry
-B-10 policy = entry (replaying (setB policy 10) nine) (leaving (2 ∷ 1 ∷ 0 ∷ []) (1 ∷ 5 ∷ 0 ∷ 1 ∷ 5 ∷ 0 ∷ 2 ∷ 0 ∷ 0 ∷ []))
+B-10 policy = entry (replaying (setB policy 10) nine)
+    (leaving (2 ∷ 1 ∷ 0 ∷ []) (1 ∷ 5 ∷ 0 ∷ 1 ∷ 5 ∷ 0 ∷ 2 ∷ 0 ∷ 0 ∷ []))
 
 -- with end 9 task 3 is open, totals 2, 0, 1
 abbrev pub B-9 : ℕ → Entry
-B-9 policy = entry (replaying (setB policy 9) nine) (leaving (2 ∷ 0 ∷ 1 ∷ []) (1 ∷ 5 ∷ 0 ∷ 1 ∷ 5 ∷ 0 ∷ 3 ∷ 0 ∷ 0 ∷ []))
+B-9 policy = entry (replaying (setB policy 9) nine)
+    (leaving (2 ∷ 0 ∷ 1 ∷ []) (1 ∷ 5 ∷ 0 ∷ 1 ∷ 5 ∷ 0 ∷ 3 ∷ 0 ∷ 0 ∷ []))
 
 -- one task (5,1,5), m = 1: free count 3, execution 1; it finishes at 1 and is never demoted
 abbrev pub counts-one : Entry

@@ -21,7 +21,8 @@ use Rattle.checks.specs.Needs.{lasts, Early}
 
 -- the tests of a release before the last one, and the last, 10, which is asked of a release that passes them
 abbrev pub nearTests : List ℕ → ℕ → List ℕ → ℕ → List Fault
-nearTests ts e rs j = unless (named ts (nameOf rs j)) 8 (suc j) ∷ unless (ltb (timeOf rs j) e) 11 (suc j) ∷ unless (inOrder rs j) 9 (suc j)
+nearTests ts e rs j = unless (named ts (nameOf rs j)) 8 (suc j) ∷ unless (ltb (timeOf rs j) e) 11 (suc j)
+    ∷ unless (inOrder rs j) 9 (suc j)
     ∷ []
 
 abbrev pub sinceTest : List ℕ → List ℕ → ℕ → Fault
@@ -36,15 +37,18 @@ pub record Near (ts : List ℕ) (e : ℕ) (rs : List ℕ) (j name t : ℕ) (some
 
 module _ (ts : List ℕ) (e : ℕ) (rs : List ℕ) (j name t : ℕ) (some ordered : Bool) (w : Near ts e rs j name t some ordered) where
   -- the tests as they are found
-  pub near-found : (a b d x : Fault) → a ≡ unless some 8 (j + 1) → b ≡ unless (ltb t e) 11 (j + 1) → d ≡ unless ordered 9 (j + 1)
+  pub near-found : (a b d x : Fault) → a ≡ unless some 8 (j + 1) → b ≡ unless (ltb t e) 11 (j + 1)
+      → d ≡ unless ordered 9 (j + 1)
       → x ≡ first (a ∷ b ∷ d ∷ []) → x ≡ first (nearTests ts e rs j)
   near-found a b d x f g h y = y ∙ rw (f, g, h, w .is-named, w .is-ordered, w .name-read, w .time-read, add-one j)
 
   -- one of them fails
-  pub near-fails : ((some && ltb t e) && ordered) ≡ false → (x : Fault) → x ≡ first (nearTests ts e rs j) → x ≡ releaseFault ts e rs j
+  pub near-fails : ((some && ltb t e) && ordered) ≡ false → (x : Fault) → x ≡ first (nearTests ts e rs j)
+      → x ≡ releaseFault ts e rs j
   unfolding releaseFault
   near-fails q x y =
-      row-stop x (nearTests ts e rs j) (sinceTest ts rs j ∷ []) y (λ z. false≢true (sym q ∙ all (row-passed x (nearTests ts e rs j) y z)))
+      row-stop x (nearTests ts e rs j) (sinceTest ts rs j ∷ []) y
+      (λ z. false≢true (sym q ∙ all (row-passed x (nearTests ts e rs j) y z)))
     where
       all : AllClear (nearTests ts e rs j) → ((some && ltb t e) && ordered) ≡ true
       all c =
@@ -66,12 +70,14 @@ module _ (ts : List ℕ) (e : ℕ) (rs : List ℕ) (j name t : ℕ) (some ordere
         named-clear ts (nameOf rs j) (sym (w .is-named ∙ ap (named ts) (w .name-read)) ∙ h)
 
     -- and the last test is what is left, as the code finds it: from what is kept of the last release and T
-    pub since-found : (last T : ℕ) (far : Bool) (f : Fault) → last ≡ lastBefore rs j (nameOf rs j) → T ≡ period ts (nameOf rs j - 1)
+    pub since-found : (last T : ℕ) (far : Bool) (f : Fault) → last ≡ lastBefore rs j (nameOf rs j)
+        → T ≡ period ts (nameOf rs j - 1)
         → far ≡ apart last T t → f ≡ unless far 10 (j + 1) → f ≡ releaseFault ts e rs j
     unfolding releaseFault orNext
     since-found last T far f p r a x =
         let found : f ≡ sinceTest ts rs j = x ∙ rw (a, p, r, w .time-read, add-one j) in
-        let named-holds = sym (ap (named ts) (w .name-read)) ∙ sym (w .is-named) ∙ and-left some _ (and-left (some && ltb t e) ordered q) in
+        let named-holds = sym (ap (named ts) (w .name-read)) ∙ sym (w .is-named)
+        ∙ and-left some _ (and-left (some && ltb t e) ordered q) in
         let soon-holds = ap (λ (n : ℕ). ltb n e) (sym (w .time-read)) ∙ and-right some _ (and-left (some && ltb t e) ordered q) in
         let order-holds = sym (w .is-ordered) ∙ and-right (some && ltb t e) ordered q in
         found ∙ rw (named-holds, soon-holds, order-holds)
@@ -126,6 +132,7 @@ module _ (ts : List ℕ) (e : ℕ) (rs : List ℕ) (j : ℕ) (f : Fault) (x : f 
     pub checked-hit : j < releaseCount rs → (f .number ≡ 0 → ⊥) → f ≡ releasesFault ts e rs
     checked-hit l h = first-hit (releaseFault ts e rs) j (releaseCount rs) l (v .none) f h (sym x)
 
-pub checked-all : (ts : List ℕ) (e : ℕ) (rs last : List ℕ) (j : ℕ) → Checked ts e rs last j → j ≡ releaseCount rs → (f : Fault)
+pub checked-all : (ts : List ℕ) (e : ℕ) (rs last : List ℕ) (j : ℕ) → Checked ts e rs last j → j ≡ releaseCount rs
+    → (f : Fault)
     → f ≡ noFault → f ≡ releasesFault ts e rs
 checked-all ts e rs last j v z f h = h ∙ sym (rw z at (v .none))

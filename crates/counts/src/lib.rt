@@ -48,7 +48,8 @@ fn count_of(procs: u32, table: &[u32], slots: u32) -> u32
 // Writes each task's free count, in table order.
 fn put_counts(procs: u32, table: &[u32], out: &mut [u32])
     requires { ⌜ Sound (now table) × Procs procs × (taskCount (now table) ≤ length (now out)) ⌝ }
-    ensures { λ r. ⌜ now (out .exit) ≡ freeCounts procs (now (table .entry)) ++ drop (taskCount (now (table .entry))) (now (out .entry)) ⌝ }
+    ensures { λ r. ⌜ now (out .exit) ≡ freeCounts procs (now (table .entry))
+        ++ drop (taskCount (now (table .entry))) (now (out .entry)) ⌝ }
 {
     let tasks = cases::task_count(table);
     let mut i: usize = 0;

@@ -20,7 +20,8 @@ module _ (c : Case) (room out : List ℕ) (o : out ≡ roomAfter c room) where
       let a = ap length o ∙ length-append (numbers (records c)) (drop (releaseCount (c .trace) * recordWidth) room) in
       omega (arith, a, numbers-long (records c), tab-long (recordBy c (c .end)) 0 (releaseCount (c .trace)))
 
-  pub total : (v m : ℕ) → m ≡ countIn (λ j. eqb (getD out (j * recordWidth) 0) v) 0 (releaseCount (c .trace)) → m ≡ marked v (records c)
+  pub total : (v m : ℕ) → m ≡ countIn (λ j. eqb (getD out (j * recordWidth) 0) v) 0 (releaseCount (c .trace))
+      → m ≡ marked v (records c)
   unfolding roomAfter
   total v m h =
       h ∙ ap (λ (l : List ℕ). countIn (λ j. eqb (getD l (j * recordWidth) 0) v) 0 (releaseCount (c .trace))) o ∙

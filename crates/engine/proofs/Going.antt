@@ -31,8 +31,13 @@ use Rattle.counts.specs.Needs.{Counts}
 use Rattle.slot.specs.Needed.{Needed}
 use Rattle.slot.specs.Stepped.{Stepped, members}
 use Rattle.notes.specs.Noted.{Roomy, openRecord}
-use Rattle.engine.specs.Walks.{Orderly, places, releases, Walking, Rests, Turned, LastRan, roomAt}
-use Rattle.engine.proofs.Quiet.{none-left, still-walking, still-ran, still-records}
+use Rattle.engine.specs.Walks.{Orderly, places, releases, Rests, LastRan, roomAt}
+use Rattle.engine.proofs.Quiet.{Walking, none-left, still-walking, still-ran, still-records}
+
+-- after the slot at t: how the walk stands, and the set that ran
+pub record Turned (c : Case) (t : ℕ) (run : Run) (place : List ℕ) (next jobs : ℕ) (rs : List Bool) : Type 0 where
+  pub walks : Walking c (suc t) run place next jobs
+  pub ran : rs ≡ tab (ranAt c t) 0 maxTasks
 
 pub orderly : (c : Case) → Legal c → Orderly (c .trace)
 orderly c g = record { named = λ j h. (g .named j h .0, omega (arith, g .named j h .1, g .tasks-few)); sorted = g .in-order }
@@ -200,7 +205,8 @@ module _ (c : Case) (g : Legal c) (clock : ℕ) (out : List ℕ) (e : out ≡ ro
 
 -- a slot that rests changes no record
 pub room-still : (c : Case) (g : Legal c) (clock : ℕ) (run : Run) (place : List ℕ) (next jobs : ℕ)
-    → Walking c clock run place next jobs → Rests (c .trace) next jobs clock → (xs : List ℕ) → roomAt c clock xs ≡ roomAt c (suc clock) xs
+    → Walking c clock run place next jobs → Rests (c .trace) next jobs clock → (xs : List ℕ)
+    → roomAt c clock xs ≡ roomAt c (suc clock) xs
 room-still c g clock run place next jobs v r xs =
     ap (λ l. numbers l ++ drop (releaseCount (c .trace) * recordWidth) xs)
     (tab-cong (recordBy c clock) (recordBy c (suc clock)) 0 _

@@ -1,4 +1,4 @@
--- A slot with nothing present and nothing released leaves everything as it is.
+-- How a walk over the slots of a case stands before a time; and that a slot with nothing present and nothing released leaves everything so.
 use mathlib.Core.Path.{_≡_, refl, ap, sym, _∙_}
 use mathlib.Core.Bool.{Bool, true, false, _&&_}
 use mathlib.Core.Logic.{_⊎_, inl, inr}
@@ -26,7 +26,14 @@ use Rattle.legal.specs.Legal.{Legal}
 use Rattle.bridge.specs.Records.{taskAt, released-no}
 use Rattle.bridge.specs.Turn.{Reached, turn-idle}
 use Rattle.lists.specs.Fuse.{keep-all, same-each}
-use Rattle.engine.specs.Walks.{Walking, Rests}
+use Rattle.engine.specs.Walks.{places, Rests}
+
+-- at time t, before step 1: the state, the releases that have been and their places; where the last slot had no job every task is idle
+pub record Walking (c : Case) (t : ℕ) (run : Run) (place : List ℕ) (next jobs : ℕ) : Type 0 where
+  pub at-run : run ≡ stateAt c t
+  pub reached : Reached (c .trace) next t
+  pub at-place : place ≡ places (c .trace) next
+  pub idle : jobs ≡ 0 → (i : ℕ) → i < maxTasks → jobAt (stateAt c t) i ≡ Idle
 
 -- where none of the first n passes, none of them does
 none-counted : (p : ℕ → Bool) (n i : ℕ) → countIn p 0 n ≡ 0 → i < n → p i ≡ false
@@ -41,7 +48,8 @@ none-counted p (suc n) i e h = go (λ l. none-counted p n i (omega arith) l) (eq
 
 -- ---- a run of idle tasks
 -- a change that leaves each task as it is leaves the run
-still : (f : ℕ → Task → Task) (r : Run) → Full r → ((i : ℕ) → i < maxTasks → f i (getD (r .tasks) i noTask) ≡ getD (r .tasks) i noTask)
+still : (f : ℕ → Task → Task) (r : Run) → Full r
+    → ((i : ℕ) → i < maxTasks → f i (getD (r .tasks) i noTask) ≡ getD (r .tasks) i noTask)
     → eachTask f r ≡ r
 still f r full h = ap runOf (same-each f (λ i t. t) (r .tasks) noTask (λ i l. h i (omega arith)) ∙ keep-all (r .tasks))
 
@@ -116,7 +124,8 @@ module _ (c : Case) (g : Legal c) (t : ℕ) (run : Run) (place : List ℕ) (next
       let y : suc t ≤ timeOf (c .trace) next = go (eq-or-lt-of-le {n = t} {m = timeOf (c .trace) next} x) first in
       omega (arith, g .in-order next j h l)
     where
-      go : (t ≡ timeOf (c .trace) next) ⊎ (t < timeOf (c .trace) next) → next < releaseCount (c .trace) → suc t ≤ timeOf (c .trace) next
+      go : (t ≡ timeOf (c .trace) next) ⊎ (t < timeOf (c .trace) next) → next < releaseCount (c .trace)
+          → suc t ≤ timeOf (c .trace) next
       go (inl e) f = absurd (r .later f (sym e))
       go (inr h) f = h
 

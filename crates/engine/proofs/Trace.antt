@@ -44,7 +44,8 @@ released-new : (rs : List ℕ) (k t i : ℕ) → timeOf rs k ≡ t → nameOf rs
 unfolding releasedIn
 released-new rs k t i e f = rw (eq-eqb (timeOf rs k) t e, eq-eqb (nameOf rs k) (suc i) f) (or-true (releasedIn rs k t i))
 
-released-old : (rs : List ℕ) (k t i : ℕ) → (timeOf rs k ≡ t → nameOf rs k ≡ suc i → ⊥) → releasedIn rs (suc k) t i ≡ releasedIn rs k t i
+released-old : (rs : List ℕ) (k t i : ℕ) → (timeOf rs k ≡ t → nameOf rs k ≡ suc i → ⊥)
+    → releasedIn rs (suc k) t i ≡ releasedIn rs k t i
 unfolding releasedIn
 released-old rs k t i h =
     rw (and-no (eqb (timeOf rs k) t) (eqb (nameOf rs k) (suc i)) (λ p q. h (eqb-true _ _ p) (eqb-true _ _ q)))

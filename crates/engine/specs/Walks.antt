@@ -1,5 +1,5 @@
--- What the engine's own functions ask and say, beside the definitions of "What happens at time t": how a walk over the slots of a case
--- stands before a time, what one slot more makes of it, and how the records stand in the lent room meanwhile.
+-- What the engine's own functions ask and say, beside the definitions of "What happens at time t": a trace that can be walked through,
+-- which tasks were released and where, a slot that rests, the set that ran last, and the records in the lent room before a time.
 use mathlib.Core.Path.{_≡_}
 use mathlib.Core.Bool.{Bool}
 use mathlib.Core.List.{List, _++_}
@@ -8,11 +8,8 @@ use lib.ListN.{drop}
 use Rattle.rules.specs.Words.{tab}
 use Rattle.rules.specs.Limits.{maxTasks, recordWidth}
 use Rattle.rules.specs.Case.{Case, releaseCount, timeOf, nameOf}
-use Rattle.rules.specs.Slot.{jobAt}
-use Rattle.rules.specs.Replay.{releasedIn, stateAt, ranAt, recordBy, numbers}
-use Rattle.rules.specs.declared.Job.the-variants.{Idle}
-use Rattle.rules.specs.declared.Run.{Run}
-use Rattle.bridge.specs.Turn.{lastPlace, Reached}
+use Rattle.rules.specs.Replay.{releasedIn, ranAt, recordBy, numbers}
+use Rattle.bridge.specs.Turn.{lastPlace}
 
 -- a trace in order whose names are task numbers
 pub record Orderly (rs : List ℕ) : Type 0 where
@@ -27,22 +24,10 @@ places rs k = tab (λ i. lastPlace rs k (suc i)) 0 maxTasks
 abbrev pub releases : List ℕ → ℕ → ℕ → List Bool
 releases rs k t = tab (releasedIn rs k t) 0 maxTasks
 
--- at time t, before step 1: the state, the releases that have been and their places; where the last slot had no job every task is idle
-pub record Walking (c : Case) (t : ℕ) (run : Run) (place : List ℕ) (next jobs : ℕ) : Type 0 where
-  pub at-run : run ≡ stateAt c t
-  pub reached : Reached (c .trace) next t
-  pub at-place : place ≡ places (c .trace) next
-  pub idle : jobs ≡ 0 → (i : ℕ) → i < maxTasks → jobAt (stateAt c t) i ≡ Idle
-
 -- the slot at t has nothing to do: every task is idle, and the next release is not of this time
 pub record Rests (rs : List ℕ) (next jobs t : ℕ) : Type 0 where
   pub idle : jobs ≡ 0
   pub later : next < releaseCount rs → timeOf rs next ≡ t → ⊥
-
--- after the slot at t: how the walk stands, and the set that ran
-pub record Turned (c : Case) (t : ℕ) (run : Run) (place : List ℕ) (next jobs : ℕ) (rs : List Bool) : Type 0 where
-  pub walks : Walking c (suc t) run place next jobs
-  pub ran : rs ≡ tab (ranAt c t) 0 maxTasks
 
 -- the set that ran in the last slot before a time
 abbrev pub LastRan : Case → ℕ → List Bool → Type 0

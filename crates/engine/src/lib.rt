@@ -141,7 +141,8 @@ fn replay_run(
     requires { ⌜ Accepted (caseOf procs policy (now table) end (now trace)) ⌝ }
     requires { ⌜ Counts procs (now table) counts ⌝ }
     requires { ⌜ releaseCount (now trace) * recordWidth ≤ length (now out) ⌝ }
-    ensures { λ r. ⌜ now (out .exit) ≡ roomAfter (caseOf procs policy (now (table .entry)) end (now (trace .entry))) (now (out .entry)) ⌝ }
+    ensures { λ r. ⌜ now (out .exit) ≡ roomAfter (caseOf procs policy (now (table .entry)) end (now (trace .entry)))
+        (now (out .entry)) ⌝ }
 {
     let n = cases::release_count(trace);
     notes::open_records(out, n);

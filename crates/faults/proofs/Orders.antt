@@ -17,7 +17,8 @@ unfolding inOrder
 order-first rs zero h = refl
 order-first rs (suc j) h = absurd (omega arith)
 
-pub order-next : (rs : List ℕ) (j : ℕ) → (j ≡ 0 → ⊥) → laterThan (timeOf rs (j - 1)) (nameOf rs (j - 1)) (timeOf rs j) (nameOf rs j)
+pub order-next : (rs : List ℕ) (j : ℕ) → (j ≡ 0 → ⊥)
+    → laterThan (timeOf rs (j - 1)) (nameOf rs (j - 1)) (timeOf rs j) (nameOf rs j)
     ≡ inOrder rs j
 unfolding inOrder
 order-next rs zero h = absurd (h refl)

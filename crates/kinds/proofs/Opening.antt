@@ -34,7 +34,8 @@ two-opens : (k : ℕ) (s : List ℕ) (say : ℕ → ℕ → Line) → ((a b : �
 unfolding twoNumbers
 two-opens k s say h = number-opens k (numberIn (fieldOf s)) _ (λ a. one-opens k (afterField s) (say a) (h a))
 
-three-opens : (k : ℕ) (s : List ℕ) (say : ℕ → ℕ → ℕ → Line) → ((a b d : ℕ) → Opens k (say a b d)) → Opens k (threeNumbers s say)
+three-opens : (k : ℕ) (s : List ℕ) (say : ℕ → ℕ → ℕ → Line) → ((a b d : ℕ) → Opens k (say a b d))
+    → Opens k (threeNumbers s say)
 unfolding threeNumbers
 three-opens k s say h = number-opens k (numberIn (fieldOf s)) _ (λ a. two-opens k (afterField s) (say a) (h a))
 

@@ -49,6 +49,7 @@ pub not-release : (b k : ℕ) → k ≡ 5 → ((4 ≤ b) × (b < 6) → ⊥) →
 unfolding mayFollow
 not-release b k e h = rw (e, ne-eqb b 4 (λ z. h (omega arith)), ne-eqb b 5 (λ z. h (omega arith))) (simp (and-false, or-false))
 
-pub not-other : (b k : ℕ) → (k ≡ 1 → ⊥) → (k ≡ 2 → ⊥) → (k ≡ 3 → ⊥) → (k ≡ 4 → ⊥) → (k ≡ 5 → ⊥) → false ≡ mayFollow b k
+pub not-other : (b k : ℕ) → (k ≡ 1 → ⊥) → (k ≡ 2 → ⊥) → (k ≡ 3 → ⊥) → (k ≡ 4 → ⊥) → (k ≡ 5 → ⊥)
+    → false ≡ mayFollow b k
 unfolding mayFollow
 not-other b k a d e f g = rw (ne-eqb k 1 a, ne-eqb k 2 d, ne-eqb k 3 e, ne-eqb k 4 f, ne-eqb k 5 g) (simp (and-false, or-false))

@@ -48,7 +48,8 @@ next-assoc : (f g h : Fault) → orNext (orNext f g) h ≡ orNext f (orNext g h)
 unfolding orNext
 next-assoc f g h = go (eqb (f .number) 0) refl
   where
-    go : (b : Bool) → eqb (f .number) 0 ≡ b → pick (eqb (pick b g f .number) 0) h (pick b g f) ≡ pick b (pick (eqb (g .number) 0) h g) f
+    go : (b : Bool) → eqb (f .number) 0 ≡ b → pick (eqb (pick b g f .number) 0) h (pick b g f)
+        ≡ pick b (pick (eqb (g .number) 0) h g) f
     go true q = refl
     go false q = rw q
 
@@ -110,7 +111,8 @@ first-from f i (suc d) a h =
     next-some' x y e = next-some x y (λ q. h (ap (λ (u : Fault). u .number) (sym e) ∙ q)) ∙ e
 
 -- a test that fails, after those that do not, gives the first fault
-pub first-hit : (f : ℕ → Fault) (i n : ℕ) → i < n → firstOf f i ≡ noFault → (x : Fault) → (x .number ≡ 0 → ⊥) → f i ≡ x → x ≡ firstOf f n
+pub first-hit : (f : ℕ → Fault) (i n : ℕ) → i < n → firstOf f i ≡ noFault → (x : Fault) → (x .number ≡ 0 → ⊥)
+    → f i ≡ x → x ≡ firstOf f n
 first-hit f i n l a x h e =
     let z : suc (i + (n - suc i)) ≡ n = omega arith in
     sym (rw z at (first-from f i (n - suc i) a (λ q. h (ap (λ (u : Fault). u .number) (sym e) ∙ q))) ∙ e)

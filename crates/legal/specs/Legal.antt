@@ -117,7 +117,8 @@ legal c ok =
     let t = table-clear (c .table) (p .by-table) in
     let s = trace-clear (c .trace) (p .by-trace) in
     let n = releaseCount (c .trace) in
-    let r : (j : ℕ) → j < n → Released (c .table) (c .end) (c .trace) j = releases-clear (c .table) (c .end) (c .trace) (p .by-releases) in
+    let r : (j : ℕ) → j < n → Released (c .table) (c .end) (c .trace) j =
+    releases-clear (c .table) (c .end) (c .trace) (p .by-releases) in
     let o : (j : ℕ) → j < n → inOrder (c .trace) j ≡ true = λ j h. r j h .order in
     record {
       procs-some = m .some;
@@ -159,7 +160,8 @@ counts-clear m ts room e =
       roomy = room-clear (taskCount ts) room (w .1 .1 .1 .0);
     }
 
-pub replay-clear : (c : Case) (room : ℕ) → replayFault c room .number ≡ 0 → Accepted c × (releaseCount (c .trace) * recordWidth ≤ room)
+pub replay-clear : (c : Case) (room : ℕ) → replayFault c room .number ≡ 0
+    → Accepted c × (releaseCount (c .trace) * recordWidth ≤ room)
 unfolding replayFault Accepted
 replay-clear c room e =
     let w = row-clear (caseFault c ∷ roomFault (releaseCount (c .trace) * recordWidth) room ∷ []) e in

@@ -64,7 +64,8 @@ pub settled-result : (f : Fault) (vs ws : List ℕ) → settled f vs ≡ result 
 unfolding settled
 settled-result f vs ws = go (eqb (f .number) 0) refl
   where
-    go : (b : Bool) → eqb (f .number) 0 ≡ b → pick b (result vs) (refusal (f .number) (f .place)) ≡ result ws → (f .number ≡ 0) × (vs ≡ ws)
+    go : (b : Bool) → eqb (f .number) 0 ≡ b → pick b (result vs) (refusal (f .number) (f .place)) ≡ result ws
+        → (f .number ≡ 0) × (vs ≡ ws)
     go true q e = (eqb-true _ _ q, ap valuesOf e)
     go false q e = absurd (no-refusal _ _ _ e)
 

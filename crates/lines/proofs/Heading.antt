@@ -67,7 +67,8 @@ module _ (s : List ℕ) (top : HeadRead) (table : List ℕ) (w : InHead s top ta
   -- one more line is read
   pub head-more : (f : Fault) (step : Step) (h′ : Head) (t′ : ℕ) (table′ : List ℕ) → top .before < 4 → top .next < length s
       → NextLine s (top .next) step → f ≡ lineFault caseOrder (top .before) (kindOf (step .said)) (top .line) → f .number ≡ 0
-      → h′ ≡ headWith (top .head) (step .said) → Added tableRoom taskWidth (top .tasks) (rowNumbers (step .said)) table t′ table′
+      → h′ ≡ headWith (top .head) (step .said)
+      → Added tableRoom taskWidth (top .tasks) (rowNumbers (step .said)) table t′ table′
       → InHead s (record { fault = f; head = h′; tasks = t′; before = step .kind; line = top .line + 1; next = step .next }) table′
   head-more f step h′ t′ table′ b l line p q g x =
       let said = step .said in
@@ -78,7 +79,8 @@ module _ (s : List ℕ) (top : HeadRead) (table : List ℕ) (w : InHead s top ta
       record {
         reading =
             reading-on _ _ _ _ _ _ _ (w .reading) f _ _ _ l (ap kindOf (sym e) ∙ follows .0)
-            (p ∙ ap (λ (y : Line). lineFault caseOrder (top .before) (kindOf y) (top .line)) e) q (line .unread) (line .on) (line .within)
+            (p ∙ ap (λ (y : Line). lineFault caseOrder (top .before) (kindOf y) (top .line)) e) q (line .unread) (line .on)
+            (line .within)
             (λ ls. ap (λ (y : Line). clip (withLines (keptCase (top .head) (top .tasks) table 0 []) (y ∷ ls))) (sym e) ∙
             kept-line (top .head) (top .tasks) 0 table [] said ls t′ 0 table′ [] (x .kept) none ∙
             ap (λ (u : Head). clip (withLines (keptCase u t′ table′ 0 []) ls)) (sym g));

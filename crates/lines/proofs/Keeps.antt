@@ -55,7 +55,8 @@ clip-lines c (l ∷ ls) =
 pub kept-line : (h : Head) (t r : ℕ) (table trace : List ℕ) (l : Line) (ls : List Line) (t′ r′ : ℕ) (table′ trace′ : List ℕ)
     → take t′ table′ ≡ take tableRoom (take t table ++ rowNumbers l)
     → take r′ trace′ ≡ take traceRoom (take r trace ++ releaseNumbers l)
-    → clip (withLines (keptCase h t table r trace) (l ∷ ls)) ≡ clip (withLines (keptCase (headWith h l) t′ table′ r′ trace′) ls)
+    → clip (withLines (keptCase h t table r trace) (l ∷ ls))
+    ≡ clip (withLines (keptCase (headWith h l) t′ table′ r′ trace′) ls)
 unfolding withLines
 kept-line h t r table trace l ls t′ r′ table′ trace′ p q =
     let c = keptCase h t table r trace in

@@ -24,14 +24,16 @@ unfolding caseWithDefault
 reading-none o p s = record { within = omega arith; counted = omega arith; fault = refl; kept = refl }
 
 -- the lines that are unread, and those after the next
-pub unread-lines : (s : List ℕ) (at : ℕ) → at < length s → linesOf (drop at s) ≡ nextSays (drop at s) ∷ linesOf (afterLine (drop at s))
+pub unread-lines : (s : List ℕ) (at : ℕ) → at < length s → linesOf (drop at s)
+    ≡ nextSays (drop at s) ∷ linesOf (afterLine (drop at s))
 unread-lines s at l = lines-next (drop at s) (omega (arith, length-drop at s))
 
 pub unread-none : (s : List ℕ) (at : ℕ) → length s ≤ at → linesOf (drop at s) ≡ []
 unread-none s at l = ap linesOf (drop-of-length-le s l) ∙ linesOf-nil
 
 -- what is at fault with the next line is at fault with the lines that are unread
-pub fault-next : (o : Order) (s : List ℕ) (b n at : ℕ) (f : Fault) → at < length s → f ≡ lineFault o b (kindOf (nextSays (drop at s))) n
+pub fault-next : (o : Order) (s : List ℕ) (b n at : ℕ) (f : Fault) → at < length s
+    → f ≡ lineFault o b (kindOf (nextSays (drop at s))) n
     → (f .number ≡ 0 → ⊥) → f ≡ linesFault o b n (linesOf (drop at s))
 fault-next o s b n at f l p q =
     p ∙ fault-here o b n (nextSays (drop at s)) (linesOf (afterLine (drop at s))) (λ z. q (ap (λ (g : Fault). g .number) p ∙ z)) ∙
@@ -67,7 +69,8 @@ module _ (o : Order) (p : ℕ) (s : List ℕ) (c : Case) (b n at : ℕ) (w : Rea
       record {
         within = i;
         counted = omega (arith, w .counted);
-        fault = w .fault ∙ fault-after o s b n at at′ f l e q d ∙ ap (λ (x : ℕ). linesFault o x (n + 1) (linesOf (drop at′ s))) kind;
+        fault = w .fault ∙ fault-after o s b n at at′ f l e q d
+            ∙ ap (λ (x : ℕ). linesFault o x (n + 1) (linesOf (drop at′ s))) kind;
         kept =
             w .kept ∙ ap (λ (ls : List Line). clip (withLines c ls)) (unread-lines s at l) ∙ more (linesOf (afterLine (drop at s))) ∙
             ap (λ (u : List ℕ). clip (withLines c′ (linesOf u))) (sym d);

@@ -67,7 +67,8 @@ module _ (s : List ℕ) (at₀ n₀ at n r : ℕ) (trace : List ℕ) (w : Releas
               sym (end-release (n + 1) unread);
           kept =
               w .kept ∙ ap (λ (ls : List Line). take traceRoom (take r trace ++ traceOf ls)) (unread-lines s at l) ∙
-              ap (take traceRoom) (sym (append-assoc (take r trace) new rest)) ∙ sym (take-clipped traceRoom (take r trace ++ new) rest) ∙
+              ap (take traceRoom) (sym (append-assoc (take r trace) new rest))
+              ∙ sym (take-clipped traceRoom (take r trace ++ new) rest) ∙
               ap (λ (z : List ℕ). take traceRoom (z ++ rest)) (sym (x .kept .kept)) ∙
               ap (λ (u : List ℕ). take traceRoom (take (step .releases) trace′ ++ traceOf (linesOf u))) (sym (x .unread));
           releases = x .kept .whole;

@@ -36,7 +36,8 @@ module _ (room width n : ℕ) (old : List ℕ) (w : Whole room width n old) wher
       }
 
   -- the numbers are stored behind those that are kept
-  pub adds-some : (new xs : List ℕ) (n′ : ℕ) → n′ ≡ n + length new → n′ ≤ room → n′ % width ≡ 0 → xs ≡ sets old n new
+  pub adds-some : (new xs : List ℕ) (n′ : ℕ) → n′ ≡ n + length new → n′ ≤ room → n′ % width ≡ 0
+      → xs ≡ sets old n new
       → Added room width n new old n′ xs
   adds-some new xs n′ e l m q =
       let k : length (take n old) ≡ n = length-take-le n old (omega (arith, w .long, w .within)) in
@@ -60,7 +61,8 @@ module _ (room width n : ℕ) (old : List ℕ) (w : Whole room width n old) wher
       → Added room width n new old (n + 2) (set (set old n a) (n + 1) b)
   adds-two new a b e l m = rw e (adds-some (a ∷ b ∷ []) (set (set old n a) (n + 1) b) (n + 2) (omega arith) l m (rw (add-one n)))
 
-none-of-five : {a b d e f x : ℕ} → OneOf (a ∷ b ∷ d ∷ e ∷ f ∷ []) x → (x ≡ a → ⊥) → (x ≡ b → ⊥) → (x ≡ d → ⊥) → (x ≡ e → ⊥) → (x ≡ f → ⊥)
+none-of-five : {a b d e f x : ℕ} → OneOf (a ∷ b ∷ d ∷ e ∷ f ∷ []) x → (x ≡ a → ⊥) → (x ≡ b → ⊥)
+    → (x ≡ d → ⊥) → (x ≡ e → ⊥) → (x ≡ f → ⊥)
     → ⊥
 none-of-five h p q r s t = ⊎-elim p (⊎-elim q (⊎-elim r (⊎-elim s t))) h
 

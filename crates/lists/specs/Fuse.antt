@@ -9,7 +9,8 @@ use lib.Seq.{ext-getD}
 use Rattle.rules.specs.Words.{mapFrom, mapAt}
 use Rattle.lists.specs.Lists.{mapFrom-long, mapAt-at}
 
-fuse-from : {A : Type 0} (f g : ℕ → A → A) (k : ℕ) (xs : List A) → mapFrom f k (mapFrom g k xs) ≡ mapFrom (λ i x. f i (g i x)) k xs
+fuse-from : {A : Type 0} (f g : ℕ → A → A) (k : ℕ) (xs : List A)
+    → mapFrom f k (mapFrom g k xs) ≡ mapFrom (λ i x. f i (g i x)) k xs
 unfolding mapFrom
 fuse-from f g k [] = refl
 fuse-from f g k (x ∷ xs) = ap (λ l. f k (g k x) ∷ l) (fuse-from f g (suc k) xs)

@@ -25,7 +25,8 @@ mapFrom-at f k [] i d h = absurd (not-suc-le-zero h)
 mapFrom-at f k (x ∷ xs) zero d h = rw (add-zero k)
 mapFrom-at f k (x ∷ xs) (suc i) d h = rw (mapFrom-at f (suc k) xs i d (omega arith), add-suc, suc-add)
 
-pub mapAt-at : {A : Type 0} (f : ℕ → A → A) (xs : List A) (i : ℕ) (d : A) → i < length xs → getD (mapAt f xs) i d ≡ f i (getD xs i d)
+pub mapAt-at : {A : Type 0} (f : ℕ → A → A) (xs : List A) (i : ℕ) (d : A) → i < length xs
+    → getD (mapAt f xs) i d ≡ f i (getD xs i d)
 mapAt-at f xs i d h = mapFrom-at f 0 xs i d h ∙ rw (zero-add i)
 
 -- two maps that agree at each index are one
@@ -54,10 +55,12 @@ tab-at f n i d h = tab-from f 0 n i d h ∙ rw (zero-add i)
 pub tab-front : {A : Type 0} (f : ℕ → A) (n : ℕ) (ys : List A) (i : ℕ) (d : A) → i < n → getD (tab f 0 n ++ ys) i d ≡ f i
 tab-front f n ys i d h = List·getD-append (tab f 0 n) ys d i (omega (arith, tab-long f 0 n)) ∙ tab-at f n i d h
 
-pub tab-cong : {A : Type 0} (f g : ℕ → A) (k n : ℕ) → ((i : ℕ) → k ≤ i → i < k + n → f i ≡ g i) → tab f k n ≡ tab g k n
+pub tab-cong : {A : Type 0} (f g : ℕ → A) (k n : ℕ) → ((i : ℕ) → k ≤ i → i < k + n → f i ≡ g i)
+    → tab f k n ≡ tab g k n
 unfolding tab
 tab-cong f g k zero h = refl
-tab-cong f g k (suc n) h = ap₂ _∷_ (h k (omega arith) (omega arith)) (tab-cong f g (suc k) n (λ i p q. h i (omega arith) (omega arith)))
+tab-cong f g k (suc n) h = ap₂ _∷_ (h k (omega arith) (omega arith))
+    (tab-cong f g (suc k) n (λ i p q. h i (omega arith) (omega arith)))
 
 pub tab-snoc : {A : Type 0} (f : ℕ → A) (k n : ℕ) → tab f k (suc n) ≡ tab f k n ++ (f (k + n) ∷ [])
 unfolding tab
@@ -95,7 +98,8 @@ pub take-first : (n : ℕ) (xs ys : List ℕ) → n ≡ length xs → take n (xs
 take-first n xs ys e = rw e (take-append-seam xs ys)
 
 -- ---- choices
-pub picked {ℓ} : {A : Type 0} (P : A → Type ℓ) (b : Bool) (x y : A) → (b ≡ true → P x) → (b ≡ false → P y) → P (pick b x y)
+pub picked {ℓ} : {A : Type 0} (P : A → Type ℓ) (b : Bool) (x y : A) → (b ≡ true → P x) → (b ≡ false → P y)
+    → P (pick b x y)
 picked P true x y f g = f refl
 picked P false x y f g = g refl
 

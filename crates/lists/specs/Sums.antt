@@ -1,9 +1,10 @@
 -- Sums over a window of numbers, and counting in it: laws of `sum` and `countIn` (rules, Words). Nothing of scheduling.
 -- Cited wherever jobs or slots are counted: by the records in the lent room and, in the crate theory, by part 1 of demand 3.
-use mathlib.Core.Path.{_≡_, refl, ap, sym}
+use mathlib.Core.Path.{_≡_, refl, ap, sym, _∙_}
 use mathlib.Core.Bool.{Bool, true, false}
 use Prim.Native.Nat.{ℕ, zero, suc, _+_, _*_, _≤_, _<_}
 use native.Mathlib.Nat.{add-zero, add-suc, suc-add, add-assoc}
+use native.Mathlib.Decide.{decLt}
 use native.Mathlib.Omega.{arith}
 use Rattle.rules.specs.Words.{sum, bit, countIn}
 
@@ -62,3 +63,29 @@ sum-swap f a l b (suc n) = omega (arith, sum-add (λ t. sum (λ i. f i t) b n) (
 
 pub count-le : (p : ℕ → Bool) (a l : ℕ) → countIn p a l ≤ l
 count-le p a l = omega (arith, sum-mono (λ t. bit (p t)) (λ t. 1) a l (λ t x y. bit-le (p t)), sum-const 1 a l)
+
+-- ---- two counts
+bit-mono : (a b : Bool) → (a ≡ true → b ≡ true) → bit a ≤ bit b
+bit-mono true b h = rw (h refl) (omega arith)
+bit-mono false b h = omega arith
+
+pub count-cong : (p q : ℕ → Bool) (a l : ℕ) → ((t : ℕ) → a ≤ t → t < a + l → p t ≡ q t)
+    → countIn p a l ≡ countIn q a l
+count-cong p q a l h = sum-cong _ _ a l (λ t x y. ap bit (h t x y))
+
+pub count-mono : (p q : ℕ → Bool) (a l : ℕ) → ((t : ℕ) → a ≤ t → t < a + l → p t ≡ true → q t ≡ true)
+    → countIn p a l ≤ countIn q a l
+count-mono p q a l h = sum-mono _ _ a l (λ t x y. bit-mono (p t) (q t) (h t x y))
+
+pub count-lt : (p q : ℕ → Bool) (a l : ℕ) → ((t : ℕ) → a ≤ t → t < a + l → p t ≡ true → q t ≡ true)
+    → (j : ℕ) → a ≤ j → j < a + l → p j ≡ false → q j ≡ true → countIn p a l < countIn q a l
+unfolding sum
+count-lt p q a zero h j x y pj qj = absurd (omega arith)
+count-lt p q a (suc l) h j x y pj qj = go (decLt j (a + l)) (count-lt p q a l (λ t u v. h t u (omega arith)) j x)
+  where
+    go : Dec (j < a + l) → (j < a + l → p j ≡ false → q j ≡ true → countIn p a l < countIn q a l)
+        → countIn p a l + bit (p (a + l)) < countIn q a l + bit (q (a + l))
+    go (yes k) ih = omega (arith, ih k pj qj, bit-mono (p (a + l)) (q (a + l)) (h (a + l) (omega arith) (omega arith)))
+    go (no k) ih =
+        let e : a + l ≡ j = omega arith in
+        omega (arith, count-mono p q a l (λ t u v. h t u (omega arith)), ap bit (ap p e ∙ pj), ap bit (ap q e ∙ qj))

@@ -26,7 +26,8 @@ set3 (q ∷ p) rest x y z a b c n e =
     let e1 : suc (length p) + 1 ≡ suc (length p + 1) = omega arith in
     rw (← e, e2, e1) (ap (λ (l : List ℕ). q ∷ l) (set3 p rest x y z a b c (length p) refl))
 
-numbers-snoc : (rs : List Record) (r : Record) → numbers (rs ++ (r ∷ [])) ≡ numbers rs ++ (r .verdict ∷ r .finish ∷ r .demotion ∷ [])
+numbers-snoc : (rs : List Record) (r : Record) → numbers (rs ++ (r ∷ [])) ≡ numbers rs
+    ++ (r .verdict ∷ r .finish ∷ r .demotion ∷ [])
 unfolding numbers
 numbers-snoc [] r = refl
 numbers-snoc (x ∷ rs) r = ap (λ (l : List ℕ). x .verdict ∷ x .finish ∷ x .demotion ∷ l) (numbers-snoc rs r)
@@ -76,7 +77,8 @@ module _ (t : ℕ) (place : List ℕ) (fin dem missed : List Bool) (i : ℕ) (xs
   unfolding noteTo noteOne
   note-yes b e h n = n ∙ rw (add-one i, sym e ∙ h, ← so-far)
 
-  pub note-no : (b : Bool) → b ≡ eventAt fin dem missed i → b ≡ false → new ≡ out → new ≡ noteTo t place fin dem missed (i + 1) xs
+  pub note-no : (b : Bool) → b ≡ eventAt fin dem missed i → b ≡ false → new ≡ out
+      → new ≡ noteTo t place fin dem missed (i + 1) xs
   unfolding noteTo noteOne
   note-no b e h n = n ∙ so-far ∙ sym (rw (add-one i, sym e ∙ h))
 

@@ -10,7 +10,8 @@ use Rattle.bridge.specs.Notes.{eventAt}
 
 -- each task of which something is written has a place in the room
 abbrev pub Roomy : List ℕ → List Bool → List Bool → List Bool → ℕ → Type 0
-Roomy place fin dem missed room = (i : ℕ) → i < maxTasks → eventAt fin dem missed i ≡ true → getD place i 0 * recordWidth + 2 < room
+Roomy place fin dem missed room = (i : ℕ) → i < maxTasks → eventAt fin dem missed i ≡ true
+    → getD place i 0 * recordWidth + 2 < room
 
 -- nothing happens to the jobs of the first n tasks
 abbrev pub Uneventful : List Bool → List Bool → List Bool → ℕ → Type 0

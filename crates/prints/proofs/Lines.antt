@@ -14,7 +14,8 @@ use Rattle.rules.specs.Case.{Case, taskCount, releaseCount}
 use Rattle.rules.specs.Replay.{Record, metJobs, missedJobs, openJobs}
 use Rattle.rules.specs.Text.{newlineByte, digitsOf}
 use Rattle.rules.specs.Writer.{lineText, moreFields}
-use Rattle.rules.specs.Report.{spaceByte, jobWord, metWord, missedWord, openWord, verdictName, finishField, demotionField, runLine, jobLine}
+use Rattle.rules.specs.Report.{spaceByte, jobWord, metWord, missedWord, openWord, verdictName, finishField, demotionField, runLine}
+use Rattle.rules.specs.Report.{jobLine}
 use Rattle.rules.specs.Report.{totalLine}
 use Rattle.texts.specs.Digits.{at-most-ten}
 use Rattle.puts.specs.Laid.{Laid}
@@ -87,7 +88,8 @@ unfolding outcomeFields fieldsText
 outcome-is r = rw (append-nil (demotionField (r .demotion)))
 
 pub job-is : (time task due : ℕ) (r : Record)
-    → jobLine time task due r ≡ jobWord ++ (numberFields spaceByte (time ∷ task ∷ due ∷ []) ++ (outcomeFields r ++ (newlineByte ∷ [])))
+    → jobLine time task due r ≡ jobWord ++ (numberFields spaceByte (time ∷ task ∷ due ∷ [])
+    ++ (outcomeFields r ++ (newlineByte ∷ [])))
 unfolding jobLine lineText moreFields outcomeFields
 job-is time task due r =
     let numbers = map digitsOf (time ∷ task ∷ due ∷ []) in

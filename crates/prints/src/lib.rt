@@ -163,7 +163,8 @@ pub fn put_job(
     demotion: u32,
 ) -> usize
     requires { ⌜ jobRoom ≤ length (now out) ⌝ }
-    ensures { λ r. ⌜ Printed jobRoom (jobLine time task due (recordOf verdict finish demotion)) (now (out .entry)) (now (out .exit)) r ⌝ }
+    ensures { λ r. ⌜ Printed jobRoom (jobLine time task due (recordOf verdict finish demotion)) (now (out .entry))
+        (now (out .exit)) r ⌝ }
 {
     let at = put_word(out, JOB);
     let numbers = [time, task, due];

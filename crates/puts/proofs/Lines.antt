@@ -23,7 +23,8 @@ pub line-end : (b : ℕ) (word : List ℕ) (ss : List (List ℕ)) → word ++ (f
 unfolding lineText moreFields
 line-end b word ss = ap (λ (l : List ℕ). word ++ l) (fields-then b ss [] ∙ ap (moreFields b) (append-nil ss))
 
-pub line-length : (b : ℕ) (word : List ℕ) (ss : List (List ℕ)) → length (lineText b word ss) ≡ length word + length (fieldsText b ss) + 1
+pub line-length : (b : ℕ) (word : List ℕ) (ss : List (List ℕ))
+    → length (lineText b word ss) ≡ length word + length (fieldsText b ss) + 1
 line-length b word ss =
     sym (ap length (line-end b word ss)) ∙ omega (
       arith,

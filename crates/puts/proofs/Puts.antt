@@ -37,7 +37,8 @@ pub sets-last : (l : List ℕ) (i d : ℕ) (vs : List ℕ) → sets (set l (i + 
 sets-last l i d vs = sets-late l i (i + length vs) d vs (omega arith) ∙ sym (sets-append l i vs (d ∷ []))
 
 -- one more byte of a text that is copied
-pub sets-suc : (l s : List ℕ) (i j : ℕ) → j < length s → set (sets l i (take j s)) (i + j) (getD s j 0) ≡ sets l i (take (j + 1) s)
+pub sets-suc : (l s : List ℕ) (i j : ℕ) → j < length s → set (sets l i (take j s)) (i + j) (getD s j 0)
+    ≡ sets l i (take (j + 1) s)
 sets-suc l s i j h =
     let n : length (take j s) ≡ j = length-take-le j s (omega arith) in
     rw (add-one j, take-suc s j 0 h, sets-append l i (take j s) (getD s j 0 ∷ []), n)
@@ -50,7 +51,8 @@ pub laid-byte : (at b : ℕ) (old : List ℕ) → Laid at (b ∷ []) old (set ol
 laid-byte at b old = record { behind = omega arith; bytes = refl }
 
 -- one text behind another
-pub laid-then : {at : ℕ} {s t old mid new : List ℕ} {k end : ℕ} → Laid at s old mid k → Laid k t mid new end → Laid at (s ++ t) old new end
+pub laid-then : {at : ℕ} {s t old mid new : List ℕ} {k end : ℕ} → Laid at s old mid k → Laid k t mid new end
+    → Laid at (s ++ t) old new end
 laid-then {at} {s} {t} {old} {mid} {new} {k} {end} p q =
     record {
       behind = omega (arith, p .behind, q .behind, length-append s t);

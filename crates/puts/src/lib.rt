@@ -1,7 +1,8 @@
 // Bytes, decimal numbers, words and lines, written into lent bytes from an index on. Each writer returns the index behind what it wrote.
 ghost use mathlib.Core.Path.{_≡_};
-ghost use Prim.Native.Nat.{_+_, _<_, _≤_};
+ghost use Prim.Native.Nat.{_+_, _*_, _<_, _≤_};
 ghost use lib.ListN.{length};
+ghost use Rattle.rules.specs.Limits.{maxReleases, releaseWidth};
 ghost use Rattle.rules.specs.Text.{digitsOf};
 ghost use Rattle.puts.specs.Laid.{Laid};
 ghost use Rattle.puts.specs.Fields.{numberFields, numberLine, wordOf};
@@ -97,7 +98,7 @@ pub fn put_numbers(out: &mut [u8], at: usize, between: u8, vs: &[u32]) -> usize
 
 // How many bytes the numbers take as fields, each with its parting byte.
 pub fn numbers_width(vs: &[u32]) -> usize
-    requires { ⌜ length (now vs) ≤ 10000 ⌝ }
+    requires { ⌜ length (now vs) ≤ maxReleases * releaseWidth ⌝ }
     ensures { λ r. ⌜ r ≡ length (numberFields 9 (now (vs .entry))) ⌝ }
 {
     let mut sum: usize = 0;

@@ -91,7 +91,8 @@ module _ (s ts rs : List ℕ) (g : Gathered) (table trace : List ℕ) (room : ro
       )
 
   -- and with them in the rooms the answer is that of the text
-  pub all-read : (r : Taken) (ts′ rs′ : List ℕ) → PutsCase (fronts (g .head) (g .tasks) table (g .releases) trace) ts rs r ts′ rs′
+  pub all-read : (r : Taken) (ts′ rs′ : List ℕ)
+      → PutsCase (fronts (g .head) (g .tasks) table (g .releases) trace) ts rs r ts′ rs′
       → ReadPromise s ts rs r ts′ rs′
   all-read r ts′ rs′ p =
       reads s ts rs (g .fault) (at-text s _ _ _ room (w .fault)) (fronts (g .head) (g .tasks) table (g .releases) trace) r ts′ rs′

@@ -66,7 +66,8 @@ reason-short n p =
     (plain-short n p)
 
 -- ---- by the number
-said : {text old new : List ℕ} {end : ℕ} (n p : ℕ) → text ≡ reasonOf n p → Laid 0 text old new end → Said (reasonOf n p) old new end
+said : {text old new : List ℕ} {end : ℕ} (n p : ℕ) → text ≡ reasonOf n p → Laid 0 text old new end
+    → Said (reasonOf n p) old new end
 said n p f l = let m = rw f at l in record { laid = m; short = omega (arith, m .behind, reason-short n p) }
 
 -- what is laid are the words of the number k, and the refusal's number is k
@@ -83,5 +84,6 @@ beyond zero p o = refl
 beyond (suc n) p o = rw (List·getD-eq-default (plainReason (suc n) p ∷ reasons p) (plainReason (suc n) p)
     (above 15 (suc n) (omega arith) o))
 
-pub plainly : {old new : List ℕ} {end : ℕ} (n p : ℕ) → Outside 15 n → Laid 0 (plainReason n p) old new end → Said (reasonOf n p) old new end
+pub plainly : {old new : List ℕ} {end : ℕ} (n p : ℕ) → Outside 15 n → Laid 0 (plainReason n p) old new end
+    → Said (reasonOf n p) old new end
 plainly n p o l = said n p (beyond n p o) l

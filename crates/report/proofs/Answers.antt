@@ -39,7 +39,8 @@ abbrev faultIn : Answer → Fault
 faultIn (refusal n p) = faultOf n p
 faultIn (result vs) = noFault
 
-pub refused-by : (f : Fault) (vs : List ℕ) (n p : ℕ) → refusal n p ≡ settled f vs → (f .number ≡ 0 → ⊥) × (faultOf n p ≡ f)
+pub refused-by : (f : Fault) (vs : List ℕ) (n p : ℕ) → refusal n p ≡ settled f vs
+    → (f .number ≡ 0 → ⊥) × (faultOf n p ≡ f)
 refused-by f vs n p h =
     let some : f .number ≡ 0 → ⊥ = λ z. never-refused f vs n p z h in
     (some, ap faultIn (h ∙ sym (refuses f f refl vs some)))

@@ -108,7 +108,8 @@ module _ (c : Case) (old : List ℕ) (ok : Accepted c) (room : printRoom ≤ len
   unfolding writeAnswer
   write-accepts n p e = never-refused (writeFault c (length old)) _ n p (write-fits c (length old) ok room) (sym (ap writtenAs e) ∙ h)
 
-  pub text-shown : (k : ℕ) → x ≡ Written·.Text k → (new : List ℕ) → new ≡ writeBytes c old → Printed printRoom (caseText c) old new k
+  pub text-shown : (k : ℕ) → x ≡ Written·.Text k → (new : List ℕ) → new ≡ writeBytes c old
+      → Printed printRoom (caseText c) old new k
   unfolding writeAnswer writeBytes
   text-shown k e new o =
       let f = write-fits c (length old) ok room in

@@ -22,7 +22,8 @@ pub listed-none : (f : ℕ → List ℕ) (w at : ℕ) (old : List ℕ) → Liste
 unfolding linesText joinedText tab
 listed-none f w at old = record { laid = laid-none at old; short = omega arith }
 
-pub listed-more : (f : ℕ → List ℕ) (w at n : ℕ) (old mid ys : List ℕ) (end k : ℕ) → Listed f w at n old mid end → end ≤ length mid
+pub listed-more : (f : ℕ → List ℕ) (w at n : ℕ) (old mid ys : List ℕ) (end k : ℕ) → Listed f w at n old mid end
+    → end ≤ length mid
     → Printed w (f n) (take (length mid - end) (drop end mid)) ys k
     → Listed f w at (n + 1) old (putMid end (length mid - end) mid ys) (end + k)
 listed-more f w at n old mid ys end k p h q =

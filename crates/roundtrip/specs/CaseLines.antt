@@ -18,7 +18,8 @@ use Rattle.texts.specs.Fields.{All}
 use Rattle.roundtrip.specs.LineTrip.{wordIn, fieldsIn, lineBytes, Below}
 use Rattle.roundtrip.specs.Lines.{textOf, textOf-append, textOf-tab}
 use Rattle.roundtrip.specs.Lengths.{text-long}
-use Rattle.roundtrip.specs.Listed.{rowAt, releaseAt, allListed, Kind, rows-list, releases-list, listed-back, lines-back, listed-long}
+use Rattle.roundtrip.specs.Listed.{rowAt, releaseAt, allListed, Kind, rows-list, releases-list, listed-back, lines-back}
+use Rattle.roundtrip.specs.Listed.{listed-long}
 use Rattle.roundtrip.specs.Listed.{kinds-tab, lines-taken}
 use Rattle.roundtrip.specs.Orders.{Tail, Body, ordered-clear}
 

@@ -25,7 +25,8 @@ policy-line = policyWord ++ (9 ∷ (edfWord ++ (10 ∷ [])))
 
 -- task 5 1 5, end 5, release 0 1
 abbrev other-lines : List ℕ
-other-lines = taskWord ++ (9 ∷ 53 ∷ 9 ∷ 49 ∷ 9 ∷ 53 ∷ 10 ∷ (endWord ++ (9 ∷ 53 ∷ 10 ∷ (releaseWord ++ (9 ∷ 48 ∷ 9 ∷ 49 ∷ 10 ∷ [])))))
+other-lines = taskWord ++ (9 ∷ 53 ∷ 9 ∷ 49 ∷ 9 ∷ 53 ∷ 10 ∷ (endWord
+    ++ (9 ∷ 53 ∷ 10 ∷ (releaseWord ++ (9 ∷ 48 ∷ 9 ∷ 49 ∷ 10 ∷ [])))))
 
 abbrev pub short-text : List ℕ
 short-text = first-line ++ other-lines

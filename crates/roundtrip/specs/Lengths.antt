@@ -76,7 +76,8 @@ line-three w f g h =
     )
 
 -- lines of at most b bytes each
-lines-long : (f : ℕ → List ℕ) (b k n : ℕ) → ((i : ℕ) → i < k + n → length (f i) ≤ b) → length (joinedText (tab f k n)) ≤ n * b
+lines-long : (f : ℕ → List ℕ) (b k n : ℕ) → ((i : ℕ) → i < k + n → length (f i) ≤ b)
+    → length (joinedText (tab f k n)) ≤ n * b
 unfolding joinedText tab
 lines-long f b k zero h = omega arith
 lines-long f b k (suc n) h =

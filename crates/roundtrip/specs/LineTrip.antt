@@ -102,14 +102,16 @@ more-written a g gs next h =
     rw (field-first (digitsOf a) (g ∷ gs) (digits-plain a), field-others (digitsOf a) g gs (digits-plain a))
     (one-written a (next (parted g gs)) h)
 
-two-written : (a b : ℕ) (say : ℕ → ℕ → Line) → a < 10 ^ 9 → b < 10 ^ 9 → twoNumbers (parted (digitsOf a) (digitsOf b ∷ [])) say ≡ say a b
+two-written : (a b : ℕ) (say : ℕ → ℕ → Line) → a < 10 ^ 9 → b < 10 ^ 9
+    → twoNumbers (parted (digitsOf a) (digitsOf b ∷ [])) say ≡ say a b
 unfolding oneNumber twoNumbers parted
 two-written a b say h k = more-written a (digitsOf b) [] (λ s v. oneNumber s (say v)) h ∙ one-written b (say a) k
 
 three-written : (a b d : ℕ) (say : ℕ → ℕ → ℕ → Line) → a < 10 ^ 9 → b < 10 ^ 9 → d < 10 ^ 9
     → threeNumbers (parted (digitsOf a) (digitsOf b ∷ digitsOf d ∷ [])) say ≡ say a b d
 unfolding oneNumber threeNumbers
-three-written a b d say h k l = more-written a (digitsOf b) (digitsOf d ∷ []) (λ s v. twoNumbers s (say v)) h ∙ two-written b d (say a) k l
+three-written a b d say h k l = more-written a (digitsOf b) (digitsOf d ∷ []) (λ s v. twoNumbers s (say v)) h
+    ∙ two-written b d (say a) k l
 
 policy-written : (p : ℕ) → p ≤ maxPolicy → policyIn (policyName p) ≡ Policy p
 unfolding policyIn
@@ -130,7 +132,8 @@ unfolding lineBody
 body-kind l = ap wordKind (field-first (wordIn l) (fieldsIn l) (word-plain l)) ∙ word-kind l
 
 -- a word and fields: the word's kind says what the fields say
-parted-says : (l : Line) (f : List ℕ) (fs : List (List ℕ)) → lineSays (parted (wordIn l) (f ∷ fs)) ≡ fieldsSay (kindOf l) (parted f fs)
+parted-says : (l : Line) (f : List ℕ) (fs : List (List ℕ)) → lineSays (parted (wordIn l) (f ∷ fs))
+    ≡ fieldsSay (kindOf l) (parted f fs)
 unfolding lineSays
 parted-says l f fs = rw (field-first (wordIn l) (f ∷ fs) (word-plain l), field-others (wordIn l) f fs (word-plain l), word-kind l)
 
@@ -148,7 +151,8 @@ written-says b (Release t n) h k = parted-says (Release t n) (digitsOf t) (digit
 
 -- ---- read, then written
 -- what is true of a badly formed line and of each line that the numbers written in s say is true of what s says
-one-read : (P : Line → Type 0) (s : List ℕ) (say : ℕ → Line) → P Bad → ((a : ℕ) → s ≡ digitsOf a → P (say a)) → P (oneNumber s say)
+one-read : (P : Line → Type 0) (s : List ℕ) (say : ℕ → Line) → P Bad → ((a : ℕ) → s ≡ digitsOf a → P (say a))
+    → P (oneNumber s say)
 unfolding oneNumber
 one-read P s say bad good = reads-written (λ n. P (withNumber n say)) s bad good
 
@@ -160,14 +164,16 @@ two-read P s say bad good =
     (λ a p. one-read P (afterField s) (say a) bad (λ b q. good a b (parted-cons s (digitsOf a) (digitsOf b) [] p q (digits-some b))))
 
 three-read : (P : Line → Type 0) (s : List ℕ) (say : ℕ → ℕ → ℕ → Line)
-    → P Bad → ((a b d : ℕ) → s ≡ parted (digitsOf a) (digitsOf b ∷ digitsOf d ∷ []) → P (say a b d)) → P (threeNumbers s say)
+    → P Bad → ((a b d : ℕ) → s ≡ parted (digitsOf a) (digitsOf b ∷ digitsOf d ∷ []) → P (say a b d))
+    → P (threeNumbers s say)
 unfolding threeNumbers fieldOf afterField oneNumber
 three-read P s say bad good =
     one-read P (fieldOf s) (λ a. twoNumbers (afterField s) (say a)) bad
     (λ a p. two-read P (afterField s) (say a) bad
     (λ b d q. good a b d (parted-cons s (digitsOf a) (digitsOf b) (digitsOf d ∷ []) p q (digits-some b))))
 
-policy-read : (P : Line → Type 0) (s : List ℕ) → P Bad → ((p : ℕ) → p ≤ maxPolicy → s ≡ policyName p → P (Policy p)) → P (policyIn s)
+policy-read : (P : Line → Type 0) (s : List ℕ) → P Bad → ((p : ℕ) → p ≤ maxPolicy → s ≡ policyName p → P (Policy p))
+    → P (policyIn s)
 unfolding policyIn
 policy-read P s bad good = name-read (λ n. P (withNumber n Policy)) s bad good
 

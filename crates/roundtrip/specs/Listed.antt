@@ -85,7 +85,8 @@ pub record Lists (k w : ℕ) (at : List ℕ → ℕ → Line) : Type 0 where
   pub kind : (xs : List ℕ) (i : ℕ) → Kind k (at xs i)
   pub wide : (l : Line) → Kind k l → length (listed l) ≡ w
   pub there : (xs : List ℕ) (i : ℕ) → i * w + w ≤ length xs → drop (i * w) xs ≡ listed (at xs i) ++ drop (i * w + w) xs
-  pub back : (xs : List ℕ) (l : Line) (ys : List ℕ) (i : ℕ) → Kind k l → length xs ≡ i * w → at (xs ++ (listed l ++ ys)) i ≡ l
+  pub back : (xs : List ℕ) (l : Line) (ys : List ℕ) (i : ℕ) → Kind k l → length xs ≡ i * w
+      → at (xs ++ (listed l ++ ys)) i ≡ l
 
 -- an element past the seam, by its place
 past-seam-at : (xs ys : List ℕ) (i j k : ℕ) → length xs ≡ i → i + j ≡ k → getD (xs ++ ys) k 0 ≡ getD ys j 0

@@ -118,7 +118,8 @@ pub record Body (ls : List Line) : Type 0 where
 pub body-tail : (ls : List Line) → Body ls → Tail ls
 body-tail ls b = rw (b .whole) (tail-more (b .task) (b .others) (b .is-task) (b .tail))
 
-body-of : (n : ℕ) (l : Line) (ls : List Line) → Kind 3 l → linesFault caseOrder (kindOf l) (suc n) ls .number ≡ 0 → Body (l ∷ ls)
+body-of : (n : ℕ) (l : Line) (ls : List Line) → Kind 3 l → linesFault caseOrder (kindOf l) (suc n) ls .number ≡ 0
+    → Body (l ∷ ls)
 body-of n l ls e h = record { task = l; others = ls; is-task = e; tail = tail-of (suc n) ls (rw e at h); whole = refl }
 
 body-after-policy : (n : ℕ) (ls : List Line) → linesFault caseOrder 2 n ls .number ≡ 0 → Body ls
@@ -148,7 +149,13 @@ ordered-after-procs n m (l ∷ ls) h =
     go : linesFault caseOrder (kindOf l) (suc n) ls .number ≡ 0 → Kind 2 l ⊎ Kind 3 l → Ordered (Procs m ∷ l ∷ ls)
     go rest (inl e) =
         let (p, q) = is-policy l e in
-        record { procs = m; after = ls; body = body-after-policy (suc n) ls (rw e at rest); whole = inl (p, ap (λ z. Procs m ∷ z ∷ ls) q) }
+        record {
+          procs = m;
+          after = ls;
+          body = body-after-policy (suc n) ls (rw e at rest);
+          whole =
+              inl (p, ap (λ z. Procs m ∷ z ∷ ls) q);
+        }
     go rest (inr e) = record { procs = m; after = l ∷ ls; body = body-of n l ls e rest; whole = inr refl }
 
 pub ordered-of : (ls : List Line) → linesFault caseOrder 0 1 ls .number ≡ 0 → Ordered ls
@@ -161,4 +168,5 @@ ordered-of (l ∷ ls) h =
 
 pub ordered-clear : (m p : ℕ) (ls : List Line) → Body ls → linesFault caseOrder 0 1 (Procs m ∷ Policy p ∷ ls) ≡ noFault
 unfolding mayFollow
-ordered-clear m p ls b = fault-next 0 1 0 (Procs m) (Policy p ∷ ls) refl refl (fault-next 1 2 1 (Policy p) ls refl refl (body-clear ls b 3))
+ordered-clear m p ls b = fault-next 0 1 0 (Procs m)
+    (Policy p ∷ ls) refl refl (fault-next 1 2 1 (Policy p) ls refl refl (body-clear ls b 3))

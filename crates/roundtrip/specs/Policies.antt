@@ -35,15 +35,18 @@ either-known : (b : Bool) (x y : Line) → policyIs x ≤ maxPolicy → policyIs
 either-known true x y p q = p
 either-known false x y p q = q
 
-number-known : (n : Num) (say : ℕ → Line) → ((a : ℕ) → policyIs (say a) ≤ maxPolicy) → policyIs (withNumber n say) ≤ maxPolicy
+number-known : (n : Num) (say : ℕ → Line) → ((a : ℕ) → policyIs (say a) ≤ maxPolicy)
+    → policyIs (withNumber n say) ≤ maxPolicy
 number-known (Num·.Value v) say h = h v
 number-known Num·.Bad say h = omega arith
 
-one-known : (s : List ℕ) (say : ℕ → Line) → ((a : ℕ) → policyIs (say a) ≤ maxPolicy) → policyIs (oneNumber s say) ≤ maxPolicy
+one-known : (s : List ℕ) (say : ℕ → Line) → ((a : ℕ) → policyIs (say a) ≤ maxPolicy)
+    → policyIs (oneNumber s say) ≤ maxPolicy
 unfolding oneNumber
 one-known s say h = number-known (numberIn s) say h
 
-two-known : (s : List ℕ) (say : ℕ → ℕ → Line) → ((a b : ℕ) → policyIs (say a b) ≤ maxPolicy) → policyIs (twoNumbers s say) ≤ maxPolicy
+two-known : (s : List ℕ) (say : ℕ → ℕ → Line) → ((a b : ℕ) → policyIs (say a b) ≤ maxPolicy)
+    → policyIs (twoNumbers s say) ≤ maxPolicy
 unfolding twoNumbers
 two-known s say h = number-known (numberIn (fieldOf s)) (λ a. oneNumber (afterField s) (say a))
     (λ a. one-known (afterField s) (say a) (h a))

@@ -59,7 +59,8 @@ policy-put-in : (k l : Line) (ls : List Line) → kindOf l ≡ 3
     → withPolicy (textOf (k ∷ l ∷ ls)) ≡ textOf (k ∷ Policy policyWhenAbsent ∷ l ∷ ls)
 unfolding withPolicy textOf policyText lineBytes wordIn fieldsIn
 policy-put-in k l ls e =
-    rw (given-second k l ls, e, lineOf-text k (l ∷ ls), afterLine-text k (l ∷ ls)) (sym (textOf-cons k (Policy policyWhenAbsent ∷ l ∷ ls)))
+    rw (given-second k l ls, e, lineOf-text k (l ∷ ls), afterLine-text k (l ∷ ls))
+    (sym (textOf-cons k (Policy policyWhenAbsent ∷ l ∷ ls)))
 
 policy-there : (k : Line) (p : ℕ) (ls : List Line) → withPolicy (textOf (k ∷ Policy p ∷ ls)) ≡ textOf (k ∷ Policy p ∷ ls)
 unfolding withPolicy
@@ -70,7 +71,8 @@ text-ordered : (ls : List Line) → Ordered ls → caseText (withLines (noCase p
 unfolding withLines withLine
 text-ordered ls o = go (o .whole)
   where
-    held : (p : ℕ) → caseText (withLines (caseOf (o .procs) p [] 0 []) (o .after)) ≡ textOf (Procs (o .procs) ∷ Policy p ∷ o .after)
+    held : (p : ℕ) → caseText (withLines (caseOf (o .procs) p [] 0 []) (o .after))
+        ≡ textOf (Procs (o .procs) ∷ Policy p ∷ o .after)
     held p = case-text _ ∙ ap textOf (lines-held (o .procs) p (o .after) (body-tail (o .after) (o .body)))
 
     go : ((p : ℕ) × (ls ≡ Procs (o .procs) ∷ Policy p ∷ o .after)) ⊎ (ls ≡ Procs (o .procs) ∷ o .after)

@@ -60,7 +60,8 @@ runLine c =
 unfoldable pub jobLine : ℕ → ℕ → ℕ → Record → List ℕ
 jobLine time task due r =
     lineText spaceByte jobWord
-    (digitsOf time ∷ digitsOf task ∷ digitsOf due ∷ verdictName (r .verdict) ∷ finishField (r .finish) ∷ demotionField (r .demotion) ∷ [])
+    (digitsOf time ∷ digitsOf task ∷ digitsOf due ∷
+    verdictName (r .verdict) ∷ finishField (r .finish) ∷ demotionField (r .demotion) ∷ [])
 
 -- the job line of release j
 unfoldable pub releaseLine : Case → ℕ → List ℕ

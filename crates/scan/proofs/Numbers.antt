@@ -30,7 +30,8 @@ unfolding numberIn isNumber
 bad-digit s h = rw (h, and-false)
 
 -- ---- what is one
-pub good : (s : List ℕ) (v : ℕ) → 1 ≤ length s → length s ≤ 9 → noLeadingZero s ≡ true → allDigits s ≡ true → worth 0 s ≡ v
+pub good : (s : List ℕ) (v : ℕ) → 1 ≤ length s → length s ≤ 9 → noLeadingZero s ≡ true → allDigits s ≡ true
+    → worth 0 s ≡ v
     → Value v ≡ numberIn s
 unfolding numberIn isNumber
 good s v a b p d w = rw (le-leb 1 (length s) a, le-leb (length s) 9 b, p, d, w)
@@ -62,7 +63,8 @@ pub digits-high : (s : List ℕ) (i : ℕ) → i < length s → 57 < getD s i 0 
 unfolding allDigits
 digits-high s i h l = rw (drop-cons s i 0 h, lt-leb (getD s i 0) 57 l, and-false)
 
-pub digits-on : (s : List ℕ) (i : ℕ) → i < length s → 48 ≤ getD s i 0 → getD s i 0 ≤ 57 → allDigits (drop i s) ≡ allDigits (drop (i + 1) s)
+pub digits-on : (s : List ℕ) (i : ℕ) → i < length s → 48 ≤ getD s i 0 → getD s i 0 ≤ 57
+    → allDigits (drop i s) ≡ allDigits (drop (i + 1) s)
 unfolding allDigits
 digits-on s i h l m = rw (add-one, drop-cons s i 0 h, le-leb 48 (getD s i 0) l, le-leb (getD s i 0) 57 m)
 

@@ -19,7 +19,8 @@ unfolding upTo
 upTo-hit s i x h e = rw (drop-cons s i 0 h, eq-eqb _ _ e)
 
 -- another byte stands at i
-upTo-miss : (s : List ℕ) (i x : ℕ) → i < length s → (getD s i 0 ≡ x → ⊥) → upTo x (drop i s) ≡ getD s i 0 ∷ upTo x (drop (i + 1) s)
+upTo-miss : (s : List ℕ) (i x : ℕ) → i < length s → (getD s i 0 ≡ x → ⊥)
+    → upTo x (drop i s) ≡ getD s i 0 ∷ upTo x (drop (i + 1) s)
 unfolding upTo
 upTo-miss s i x h e = rw (add-one, drop-cons s i 0 h, ne-eqb _ _ e)
 
@@ -28,7 +29,8 @@ upTo-none : (x : ℕ) → upTo x [] ≡ []
 unfolding upTo
 upTo-none x = refl
 
-take-pick : (t : Bool) (b : ℕ) (u s : List ℕ) → take (length u) s ≡ u → take (length (pick t [] (b ∷ u))) (b ∷ s) ≡ pick t [] (b ∷ u)
+take-pick : (t : Bool) (b : ℕ) (u s : List ℕ) → take (length u) s ≡ u
+    → take (length (pick t [] (b ∷ u))) (b ∷ s) ≡ pick t [] (b ∷ u)
 take-pick true b u s h = refl
 take-pick false b u s h = ap (λ (l : List ℕ). b ∷ l) h
 
@@ -75,7 +77,8 @@ unfolding upTo past
 drop-past x [] h = refl
 drop-past x (b ∷ s) h = past-pick (eqb b x) b (upTo x s) (past x s) s (drop-past x s) h
 
-none-pick : (t : Bool) (b : ℕ) (u v s : List ℕ) → (length s ≤ length u → v ≡ []) → length (b ∷ s) ≤ length (pick t [] (b ∷ u))
+none-pick : (t : Bool) (b : ℕ) (u v s : List ℕ) → (length s ≤ length u → v ≡ [])
+    → length (b ∷ s) ≤ length (pick t [] (b ∷ u))
     → pick t s v ≡ []
 none-pick true b u v s h l = absurd (omega arith)
 none-pick false b u v s h l = h (omega arith)
@@ -86,7 +89,8 @@ unfolding upTo past
 none-past x [] h = refl
 none-past x (b ∷ s) h = none-pick (eqb b x) b (upTo x s) (past x s) s (none-past x s) h
 
-has-pick : (t : Bool) (b : ℕ) (u s : List ℕ) (v : Bool) → (length u < length s → v ≡ true) → length (pick t [] (b ∷ u)) < length (b ∷ s)
+has-pick : (t : Bool) (b : ℕ) (u s : List ℕ) (v : Bool) → (length u < length s → v ≡ true)
+    → length (pick t [] (b ∷ u)) < length (b ∷ s)
     → pick t true v ≡ true
 has-pick true b u s v h l = refl
 has-pick false b u s v h l = h (omega arith)
@@ -97,7 +101,8 @@ unfolding upTo has
 has-some x [] h = absurd (omega arith)
 has-some x (b ∷ s) h = has-pick (eqb b x) b (upTo x s) s (has x s) (has-some x s) h
 
-hasnt-pick : (t : Bool) (b : ℕ) (u s : List ℕ) (v : Bool) → (length s ≤ length u → v ≡ false) → length (b ∷ s) ≤ length (pick t [] (b ∷ u))
+hasnt-pick : (t : Bool) (b : ℕ) (u s : List ℕ) (v : Bool) → (length s ≤ length u → v ≡ false)
+    → length (b ∷ s) ≤ length (pick t [] (b ∷ u))
     → pick t true v ≡ false
 hasnt-pick true b u s v h l = absurd (omega arith)
 hasnt-pick false b u s v h l = h (omega arith)
@@ -111,7 +116,8 @@ has-none x (b ∷ s) h = hasnt-pick (eqb b x) b (upTo x s) s (has x s) (has-none
 part-from : (a : ℕ) (s : List ℕ) → take (length s - a) (drop a s) ≡ drop a s
 part-from a s = take-all (length s - a) (drop a s) (omega (arith, length-drop a s))
 
-pub rest-some : (x e : ℕ) (s : List ℕ) → e ≡ length (upTo x s) → e < length s → take (length s - (e + 1)) (drop (e + 1) s) ≡ past x s
+pub rest-some : (x e : ℕ) (s : List ℕ) → e ≡ length (upTo x s) → e < length s
+    → take (length s - (e + 1)) (drop (e + 1) s) ≡ past x s
 rest-some x e s h l =
     let k : e + 1 ≡ suc (length (upTo x s)) = omega arith in
     part-from (e + 1) s ∙ ap (λ (n : ℕ). drop n s) k ∙ drop-past x s (omega arith)

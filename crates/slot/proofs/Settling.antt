@@ -1,6 +1,6 @@
 -- Steps 1 to 3 of a run are steps 1 to 3 of each task; and the first pass as it goes on.
 use mathlib.Core.Path.{_≡_, refl, ap, sym, _∙_}
-use mathlib.Core.Bool.{Bool, true, false, _&&_, _||_, and-false, true≢false}
+use mathlib.Core.Bool.{Bool, true, false, _&&_, _||_, and-false}
 use mathlib.Core.List.{List}
 use Prim.Native.Nat.{ℕ, _+_, _≤_, _<_}
 use native.Mathlib.Nat.{zero-add}
@@ -11,7 +11,8 @@ use lib.Seq.{getD-set-same, length-take-le, getD-take}
 use Rattle.rules.specs.Words.{pick, bit, sum, countIn, mapAt}
 use Rattle.rules.specs.Limits.{maxTasks}
 use Rattle.rules.specs.Policies.{demoting}
-use Rattle.rules.specs.Slot.{Setup, TaskSet, freeCountIn, noTask, runOf, withJob, jobAt, isPresent, present, eachTask, isMissed, judgedTask}
+use Rattle.rules.specs.Slot.{Setup, TaskSet, freeCountIn, noTask, runOf, withJob, jobAt, isPresent, present, eachTask, isMissed}
+use Rattle.rules.specs.Slot.{judgedTask}
 use Rattle.rules.specs.Slot.{judged}
 use Rattle.rules.specs.Slot.{releasedTask, joinedTask, joined, readied, isDemotedNow, demotedTask, demoted, jobsNow, missed, demotedNow}
 use Rattle.rules.specs.declared.Job.{Job}
@@ -19,6 +20,7 @@ use Rattle.rules.specs.declared.Job.the-variants.{Idle}
 use Rattle.rules.specs.declared.Task.{Task}
 use Rattle.rules.specs.declared.Run.{Run}
 use Rattle.lists.specs.Lists.{mapAt-at}
+use Rattle.lists.specs.Tests.{or-left, or-right}
 use Rattle.lists.specs.Fill.{Filling, filling-at, each-none, each-store, each-keep, filling-all}
 use Rattle.lists.specs.Fuse.{fuse, keep-all}
 use Rattle.bridge.specs.Steps.{Full}
@@ -53,7 +55,8 @@ module _ (g : Setup) (now : ℕ) (s : TaskSet) (r : Run) where
       demote (demoting (g .policy)) (readied g now s r) ∙ ap (eachTask (λ i t. demotedUnder (demoting (g .policy)) t)) ready ∙
       ap runOf (fuse (λ i t. demotedUnder (demoting (g .policy)) t) (readyTask g now s) (r .tasks))
 
-  ready-at : (i : ℕ) → i < maxTasks → Full r → getD (readied g now s r .tasks) i noTask ≡ readyTask g now s i (getD (r .tasks) i noTask)
+  ready-at : (i : ℕ) → i < maxTasks → Full r → getD (readied g now s r .tasks) i noTask
+      ≡ readyTask g now s i (getD (r .tasks) i noTask)
   ready-at i l h = ap (λ (x : Run). getD (x .tasks) i noTask) ready ∙ mapAt-at (readyTask g now s) (r .tasks) i noTask (omega arith)
 
 -- what the code makes of a task in steps 1 and 2 is what the definitions say
@@ -65,10 +68,6 @@ ready-as : (g : Setup) (now : ℕ) (i f : ℕ) (b : Bool) (t : Task) → (b ≡ 
     → readiedTask (g .table) i f b now t ≡ pick b (releasedTask g now i (judgedTask now t)) (judgedTask now t)
 ready-as g now i f true t h = rw (h refl, number-kept (isMissed now (t .job)) t)
 ready-as g now i f false t h = refl
-
-either-false : (a b : Bool) → (a || b) ≡ false → (a ≡ false) × (b ≡ false)
-either-false false b e = (refl, e)
-either-false true b e = absurd (true≢false e)
 
 -- a task that is not released and whose job is neither missed nor demoted stays as it is
 ready-same : (g : Setup) (now : ℕ) (s : TaskSet) (i : ℕ) (t : Task) → s i ≡ false → isMissed now (t .job) ≡ false
@@ -92,7 +91,8 @@ long {ys} {xs} {ts} {i} w =
     ∙ omega (arith, w .within, w .long, length-take-le i ys (omega (arith, w .within, w .long′)), length-drop i xs)
 
 -- one task more is counted
-count-more : (p : ℕ → Bool) (i n m : ℕ) (b : Bool) → n ≡ countIn p 0 i → m ≡ n + bit b → p i ≡ b → m ≡ countIn p 0 (i + 1)
+count-more : (p : ℕ → Bool) (i n m : ℕ) (b : Bool) → n ≡ countIn p 0 i → m ≡ n + bit b → p i ≡ b
+    → m ≡ countIn p 0 (i + 1)
 unfolding sum
 count-more p i n m b e h q = rw (add-one i, zero-add i, q) (omega arith)
 
@@ -163,16 +163,17 @@ module _ (g : Setup) (now : ℕ) (s : TaskSet) (r : Run) (ts : List Task) (ms ds
   kept : (s i || isMissed now (getD ts i noTask .job) || (demoting (g .policy) && isDemotedNow (getD ts i noTask .job))) ≡ false
       → Changed g now s r ts ms ds i
   kept e =
-      let f = either-false (s i || isMissed now (getD ts i noTask .job)) _ e in
-      let h = either-false (s i) (isMissed now (getD ts i noTask .job)) (f .0) in
-      let k = ready-same g now s i (getD ts i noTask) (h .0) (h .1) in
+      let untouched = or-left (s i || isMissed now (getD ts i noTask .job)) _ e in
+      let stays = or-right (s i || isMissed now (getD ts i noTask .job)) _ e in
+      let in-time = or-right (s i) (isMissed now (getD ts i noTask .job)) untouched in
+      let k = ready-same g now s i (getD ts i noTask) (or-left (s i) _ untouched) in-time in
       record {
         full = w .full;
         tasks = each-keep (settledTask g now s) maxTasks (r .tasks) ts i noTask l (w .tasks)
-            (ap (demotedUnder (demoting (g .policy))) k ∙ demoted-same (demoting (g .policy)) (getD ts i noTask) (f .1));
-        removed = mark-keep (missed g now s r) ms i l (w .removed) (removed-as ∙ h .1);
+            (ap (demotedUnder (demoting (g .policy))) k ∙ demoted-same (demoting (g .policy)) (getD ts i noTask) stays);
+        removed = mark-keep (missed g now s r) ms i l (w .removed) (removed-as ∙ in-time);
         demotes = mark-keep (demotedNow g now s r) ds i l (w .demotes)
-            (demotes-as ∙ ap (λ (t : Task). demoting (g .policy) && isDemotedNow (t .job)) k ∙ f .1);
+            (demotes-as ∙ ap (λ (t : Task). demoting (g .policy) && isDemotedNow (t .job)) k ∙ stays);
       }
 
   here : {ts' : List Task} {ms' ds' : List Bool} → Changed g now s r ts' ms' ds' i
@@ -213,18 +214,17 @@ module _ (g : Setup) (now : ℕ) (s : TaskSet) (r : Run) (ts : List Task) (ms ds
       → (s i || isMissed now (getD ts i noTask .job) || (demoting (g .policy) && isDemotedNow (getD ts i noTask .job))) ≡ false
       → Settling g now s r ts ms ds (set ps i true) (n + 1) (i + 1)
   settle-keep c e =
-      let f = either-false (s i || isMissed now (getD ts i noTask .job)) _ e in
-      let h = either-false (s i) (isMissed now (getD ts i noTask .job)) (f .0) in
-      let p : isPresent (getD ts i noTask .job) ≡ true = rw (h .0) at c in
+      let untouched = or-left (s i || isMissed now (getD ts i noTask .job)) _ e in
+      let p : isPresent (getD ts i noTask .job) ≡ true = rw (or-left (s i) (isMissed now (getD ts i noTask .job)) untouched) at c in
       counted ts ms ds true (n + 1) (kept e) (sym p) (rw p refl)
 
   -- it has no job, and none is released
   pub settle-skip : (s i || isPresent (getD ts i noTask .job)) ≡ false → Settling g now s r ts ms ds ps n (i + 1)
   unfolding present
   settle-skip e =
-      let f = either-false (s i) (isPresent (getD ts i noTask .job)) e in
-      let v = kept (idle-kept (demoting (g .policy)) (s i) (getD ts i noTask .job) (f .0) (f .1)) in
-      let t = here v ∙ f .1 in
+      let idle = or-right (s i) (isPresent (getD ts i noTask .job)) e in
+      let v = kept (idle-kept (demoting (g .policy)) (s i) (getD ts i noTask .job) (or-left (s i) _ e) idle) in
+      let t = here v ∙ idle in
       record {
         full = v .full;
         tasks = v .tasks;
@@ -235,7 +235,8 @@ module _ (g : Setup) (now : ℕ) (s : TaskSet) (r : Run) (ts : List Task) (ms ds
         counts = count-more (present (settledRun g now s r)) i n n false (w .counts) (omega arith) t;
       }
     where
-      idle-kept : (cf b : Bool) (j : Job) → b ≡ false → isPresent j ≡ false → (b || isMissed now j || (cf && isDemotedNow j)) ≡ false
+      idle-kept : (cf b : Bool) (j : Job) → b ≡ false → isPresent j ≡ false
+          → (b || isMissed now j || (cf && isDemotedNow j)) ≡ false
       idle-kept cf b j n p = rw (n, idle-now j p, and-false cf)
 
 pub settle-all : (g : Setup) (now : ℕ) (s : TaskSet) (r a : Run) (ms ds ps : List Bool) (n i : ℕ) → maxTasks ≤ i

@@ -113,7 +113,8 @@ worked-same s u r f h =
     (same-each (λ i t. pick (s i) (workedTask t) t) (λ i t. pick (u i) (workedTask t) t) (r .tasks) noTask
     (λ i l. ap (λ b. pick b (workedTask (getD (r .tasks) i noTask)) (getD (r .tasks) i noTask)) (h i (omega arith))))
 
-module _ (g : Setup) (now : ℕ) (s : TaskSet) (r d : Run) (full : Full r) (n : ℕ) (ms ds ps : List Bool) (p : Settles g now s r d n ms ds ps)
+module _ (g : Setup) (now : ℕ) (s : TaskSet) (r d : Run) (full : Full r) (n : ℕ) (ms ds ps : List Bool)
+    (p : Settles g now s r d n ms ds ps)
     (rs : List Bool)
     (c : Chosen (g .procs) (g .policy) now d rs) (e : Run) (fs ls : List Bool)
     (w : Worked (g .procs) (g .policy) now (members rs) d e fs ls) where

@@ -58,7 +58,8 @@ module _ (lowers : Bool) (now : ℕ) (runs : TaskSet) where
     next-as = ap (λ (t : Task). isMissed (suc now) (workTask i t .job)) (sym was)
 
     -- it has a job
-    pub work-store : (v : Task) (b d : Bool) → v ≡ workTask i (getD ts i noTask) → b ≡ (runs i && lastUnit (leftOf (getD ts i noTask .job)))
+    pub work-store : (v : Task) (b d : Bool) → v ≡ workTask i (getD ts i noTask)
+        → b ≡ (runs i && lastUnit (leftOf (getD ts i noTask .job)))
         → d ≡ isMissed (now + 1) (v .job) → Working r (set ts i v) (set fs i b) (set ls i d) (i + 1)
     work-store v b d o q y = record {
       full = w .full;

@@ -165,7 +165,8 @@ unfolding digitsOf digitsIn
 digits-step n h l = rw (le-ltb n 10 h) (ap (λ (d : List ℕ). d ++ ((48 + n % 10) ∷ [])) (digits-room 8 (n / 10) (omega arith)))
 
 -- the digits of a number with more behind it
-digits-behind : (s : List ℕ) (v : ℕ) → 0 < v → allDigits s ≡ true → worth v s < 10 ^ 9 → digitsOf (worth v s) ≡ digitsOf v ++ s
+digits-behind : (s : List ℕ) (v : ℕ) → 0 < v → allDigits s ≡ true → worth v s < 10 ^ 9
+    → digitsOf (worth v s) ≡ digitsOf v ++ s
 unfolding worth
 digits-behind [] v l p h = sym (append-nil (digitsOf v))
 digits-behind (b ∷ s) v l p h =
@@ -177,7 +178,8 @@ digits-behind (b ∷ s) v l p h =
     ∙ ap₂ (λ (x y : ℕ). digitsOf x ++ (y ∷ [])) q r in
     digits-behind s w (omega arith) (d .2) h ∙ ap (λ (z : List ℕ). z ++ s) e ∙ append-assoc (digitsOf v) (b ∷ []) s
 
-digits-whole : (s : List ℕ) → 1 ≤ length s → length s ≤ 9 → noLeadingZero s ≡ true → allDigits s ≡ true → digitsOf (worth 0 s) ≡ s
+digits-whole : (s : List ℕ) → 1 ≤ length s → length s ≤ 9 → noLeadingZero s ≡ true → allDigits s ≡ true
+    → digitsOf (worth 0 s) ≡ s
 unfolding worth noLeadingZero
 digits-whole [] h l p q = absurd (omega arith)
 digits-whole (b ∷ []) h l p q =

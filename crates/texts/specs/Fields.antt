@@ -32,7 +32,8 @@ same-true (x ∷ s) (y ∷ t) e = ap₂ _∷_ (eqb-true x y (and-left (eqb x y) 
 -- the first byte of a text without x is not x, and no more is any other
 without-head : (x b : ℕ) (s : List ℕ) → has x (b ∷ s) ≡ false → (eqb b x ≡ false) × (has x s ≡ false)
 unfolding has
-without-head x b s = picked (λ t. t ≡ false → (eqb b x ≡ false) × (has x s ≡ false)) (eqb b x) true (has x s) (λ p e. absurd (true≢false e))
+without-head x b s = picked (λ t. t ≡ false → (eqb b x ≡ false) × (has x s ≡ false)) (eqb b x) true (has x s)
+    (λ p e. absurd (true≢false e))
     (λ p e. (p, e))
 
 pub upTo-seam : (x : ℕ) (s t : List ℕ) → has x s ≡ false → upTo x (s ++ (x ∷ t)) ≡ s
@@ -78,7 +79,8 @@ unfolding has past
 past-some x [] h = absurd (omega arith)
 past-some x (b ∷ s) h = go (past-some x s) (eqb b x) h
   where
-    go : (1 ≤ length (past x s) → has x s ≡ true) → (t : Bool) → 1 ≤ length (pick t s (past x s)) → pick t true (has x s) ≡ true
+    go : (1 ≤ length (past x s) → has x s ≡ true) → (t : Bool) → 1 ≤ length (pick t s (past x s))
+        → pick t true (has x s) ≡ true
     go more true h = refl
     go more false h = more h
 

@@ -49,7 +49,8 @@ unfolding linesOf linesIn
 linesOf-nil = refl
 
 -- the first line of a text that is not empty, and the lines of what is past it
-pub linesOf-some : (s : List ℕ) → 1 ≤ length s → linesOf s ≡ pick (has newlineByte s) (lineSays (lineOf s)) Bad ∷ linesOf (afterLine s)
+pub linesOf-some : (s : List ℕ) → 1 ≤ length s
+    → linesOf s ≡ pick (has newlineByte s) (lineSays (lineOf s)) Bad ∷ linesOf (afterLine s)
 unfolding linesOf linesIn
 linesOf-some [] h = absurd (omega arith)
 linesOf-some (b ∷ s) h =

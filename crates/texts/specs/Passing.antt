@@ -110,7 +110,8 @@ read-clear s t r e =
     }
 
 -- with room enough only the text is asked
-pub read-roomy : (s : List ℕ) (t r : ℕ) → maxTasks * taskWidth ≤ t → maxReleases * releaseWidth ≤ r → readFault s t r ≡ textFault s
+pub read-roomy : (s : List ℕ) (t r : ℕ) → maxTasks * taskWidth ≤ t → maxReleases * releaseWidth ≤ r
+    → readFault s t r ≡ textFault s
 unfolding readFault
 read-roomy s t r p q =
     next-none (roomFault (maxTasks * taskWidth) t) _ (room-passes _ t p) ∙

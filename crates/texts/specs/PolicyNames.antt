@@ -56,6 +56,7 @@ pub name-found : (p : ℕ) → p ≤ maxPolicy → policyOf (policyName p) ≡ V
 unfolding policyOf policyName
 name-found p h = place-found 0 policyWords p distinct-words (omega arith) ∙ rw (zero-add p)
 
-pub name-read : (P : Num → Type 0) (s : List ℕ) → P Bad → ((p : ℕ) → p ≤ maxPolicy → s ≡ policyName p → P (Value p)) → P (policyOf s)
+pub name-read : (P : Num → Type 0) (s : List ℕ) → P Bad → ((p : ℕ) → p ≤ maxPolicy → s ≡ policyName p → P (Value p))
+    → P (policyOf s)
 unfolding policyOf policyName
 name-read P s bad good = place-read P 0 policyWords s bad (λ k h e. rw (zero-add k) (good k (omega arith) e))

@@ -22,7 +22,8 @@ unfoldable pub every : (List ℕ → Bool) → List (List ℕ) → Bool
 every p [] = true
 every p (w ∷ ws) = p w && every p ws
 
-pub every-at : (p : List ℕ → Bool) (ws : List (List ℕ)) (k : ℕ) → every p ws ≡ true → k < length ws → p (getD ws k []) ≡ true
+pub every-at : (p : List ℕ → Bool) (ws : List (List ℕ)) (k : ℕ) → every p ws ≡ true → k < length ws
+    → p (getD ws k []) ≡ true
 unfolding every
 every-at p [] k e h = absurd (omega arith)
 every-at p (w ∷ ws) zero e h = and-left (p w) _ e
@@ -35,7 +36,8 @@ none-at (w ∷ ws) zero h = absurd (omega arith)
 none-at (w ∷ ws) (suc k) h = none-at ws k (omega arith)
 
 -- so of each number, where the test holds of the empty word too
-pub every-all : (p : List ℕ → Bool) (ws : List (List ℕ)) (k : ℕ) → every p ws ≡ true → p [] ≡ true → p (getD ws k []) ≡ true
+pub every-all : (p : List ℕ → Bool) (ws : List (List ℕ)) (k : ℕ) → every p ws ≡ true → p [] ≡ true
+    → p (getD ws k []) ≡ true
 unfolding every
 every-all p [] k e h = h
 every-all p (w ∷ ws) zero e h = and-left (p w) _ e
@@ -72,7 +74,8 @@ same-self [] = refl
 same-self (x ∷ s) = rw (eq-eqb x x refl, same-self s)
 
 -- a word is found at its place
-pub place-found : (n : ℕ) (ws : List (List ℕ)) (k : ℕ) → distinct ws ≡ true → k < length ws → placeFrom n ws (getD ws k []) ≡ Value (n + k)
+pub place-found : (n : ℕ) (ws : List (List ℕ)) (k : ℕ) → distinct ws ≡ true → k < length ws
+    → placeFrom n ws (getD ws k []) ≡ Value (n + k)
 unfolding placeFrom distinct
 place-found n [] k e h = absurd (omega arith)
 place-found n (w ∷ ws) zero e h = rw (same-self w, add-zero n)

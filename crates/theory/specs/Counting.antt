@@ -10,40 +10,17 @@ use lib.Dec.{eqb, ltb, leb}
 use borrow.Author.Tests.{eqb-true, eq-eqb, le-leb, lt-leb, lt-ltb, le-ltb}
 use Rattle.rules.specs.Words.{bit, sum, countIn, orElse, firstIn}
 use Rattle.lists.specs.Tests.{never-true, and-left, and-right}
-use Rattle.lists.specs.Sums.{bit-le, sum-mono, sum-cong, sum-add, sum-mul, sum-const}
+use Rattle.lists.specs.Sums.{bit-le, sum-mono, sum-cong, sum-add, sum-mul, sum-const, count-cong, count-lt}
 
 pub and-both : (a b : Bool) → a ≡ true → b ≡ true → (a && b) ≡ true
 and-both a b p q = rw (p, q)
-
-bit-mono : (a b : Bool) → (a ≡ true → b ≡ true) → bit a ≤ bit b
-bit-mono true b h = rw (h refl) (omega arith)
-bit-mono false b h = omega arith
-
--- ---- two counts
-pub count-cong : (p q : ℕ → Bool) (a l : ℕ) → ((t : ℕ) → a ≤ t → t < a + l → p t ≡ q t) → countIn p a l ≡ countIn q a l
-count-cong p q a l h = sum-cong _ _ a l (λ t x y. ap bit (h t x y))
-
-pub count-mono : (p q : ℕ → Bool) (a l : ℕ) → ((t : ℕ) → a ≤ t → t < a + l → p t ≡ true → q t ≡ true) → countIn p a l ≤ countIn q a l
-count-mono p q a l h = sum-mono _ _ a l (λ t x y. bit-mono (p t) (q t) (h t x y))
-
-pub count-lt : (p q : ℕ → Bool) (a l : ℕ) → ((t : ℕ) → a ≤ t → t < a + l → p t ≡ true → q t ≡ true)
-    → (j : ℕ) → a ≤ j → j < a + l → p j ≡ false → q j ≡ true → countIn p a l < countIn q a l
-unfolding sum
-count-lt p q a zero h j x y pj qj = absurd (omega arith)
-count-lt p q a (suc l) h j x y pj qj = go (decLt j (a + l)) (count-lt p q a l (λ t u v. h t u (omega arith)) j x)
-  where
-    go : Dec (j < a + l) → (j < a + l → p j ≡ false → q j ≡ true → countIn p a l < countIn q a l)
-        → countIn p a l + bit (p (a + l)) < countIn q a l + bit (q (a + l))
-    go (yes k) ih = omega (arith, ih k pj qj, bit-mono (p (a + l)) (q (a + l)) (h (a + l) (omega arith) (omega arith)))
-    go (no k) ih =
-        let e : a + l ≡ j = omega arith in
-        omega (arith, count-mono p q a l (λ t u v. h t u (omega arith)), ap bit (ap p e ∙ pj), ap bit (ap q e ∙ qj))
 
 pub count-none : (p : ℕ → Bool) (a l : ℕ) → ((t : ℕ) → a ≤ t → t < a + l → p t ≡ false) → countIn p a l ≡ 0
 count-none p a l h = count-cong p (λ t. false) a l h ∙ omega (arith, sum-const 0 a l)
 
 -- a test that no two pass
-pub count-one : (p : ℕ → Bool) (a l : ℕ) → ((i j : ℕ) → i < j → j < a + l → p i ≡ true → p j ≡ true → ⊥) → countIn p a l ≤ 1
+pub count-one : (p : ℕ → Bool) (a l : ℕ) → ((i j : ℕ) → i < j → j < a + l → p i ≡ true → p j ≡ true → ⊥)
+    → countIn p a l ≤ 1
 unfolding sum
 count-one p a zero h = omega arith
 count-one p a (suc l) h = go (p (a + l)) refl (count-one p a l (λ i j x y. h i j x (omega arith)))
@@ -55,7 +32,11 @@ count-one p a (suc l) h = go (p (a + l)) refl (count-one p a l (λ i j x y. h i 
 -- a test that one passes, and no two
 pub count-only : (p : ℕ → Bool) (a l j : ℕ) → a ≤ j → j < a + l → p j ≡ true
     → ((i j : ℕ) → i < j → j < a + l → p i ≡ true → p j ≡ true → ⊥) → countIn p a l ≡ 1
-count-only p a l j x y e h = omega (arith, count-one p a l h, count-lt (λ t. false) p a l (λ t u v q. absurd (false≢true q)) j x y refl e)
+count-only p a l j x y e h = omega (
+  arith,
+  count-one p a l h,
+  count-lt (λ t. false) p a l (λ t u v q. absurd (false≢true q)) j x y refl e,
+)
 
 -- ---- Markov's inequality: the slots in which f is over m have at least m + 1 each of f's sum
 pub over-count : (f : ℕ → ℕ) (m a l : ℕ) → suc m * countIn (λ t. ltb m (f t)) a l ≤ sum f a l
@@ -140,7 +121,8 @@ module _ (p : ℕ → Bool) (rank : ℕ → ℕ) (l : ℕ)
           omega (arith, g, all-firsts n (omega arith), at-most m)
 
 -- ---- the first that holds
-pub first-cong : (p q : ℕ → Bool) (a l : ℕ) → ((t : ℕ) → a ≤ t → t < a + l → p t ≡ q t) → firstIn p a l ≡ firstIn q a l
+pub first-cong : (p q : ℕ → Bool) (a l : ℕ) → ((t : ℕ) → a ≤ t → t < a + l → p t ≡ q t)
+    → firstIn p a l ≡ firstIn q a l
 unfolding firstIn
 first-cong p q a zero h = refl
 first-cong p q a (suc l) h = rw (first-cong p q a l (λ t x y. h t x (omega arith)), h (a + l) (omega arith) (omega arith))

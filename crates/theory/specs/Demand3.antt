@@ -16,12 +16,13 @@ use Rattle.rules.specs.Policies.{edf, edfCf, demoting}
 use Rattle.rules.specs.Slot.{jobAt, isPresent, isDemoted, freeCountIn}
 use Rattle.rules.specs.Replay.{setupIn, stateAt, contentionFreeAt, finishBy, demotionBy, verdictBy, verdictOf, recordBy}
 use Rattle.lists.specs.Tests.{never-false}
+use Rattle.lists.specs.Sums.{count-cong}
 use Rattle.bridge.specs.Jobs.{Stand}
 use Rattle.bridge.specs.Course.{Course, contentionFreeIn, finishedIn, finishIn, demotionIn}
 use Rattle.bridge.specs.Stands.{replayOf}
 use Rattle.legal.specs.Legal.{Legal, legal}
 use Rattle.bridge.specs.Records.{taskAt, sole}
-use Rattle.theory.specs.Counting.{count-cong, first-in}
+use Rattle.theory.specs.Counting.{first-in}
 use Rattle.theory.specs.Lawful.{Lawful, Attends, replay-free, replay-attends}
 use Rattle.theory.specs.Enough.{enough, never-over}
 use Rattle.theory.specs.Story.{story, Attended, story-finishes}

@@ -14,12 +14,13 @@ use Rattle.rules.specs.Policies.{edf, demoting}
 use Rattle.rules.specs.Slot.{jobAt, isPresent, isDemoted, leftOf, dueOf, isMissed, releasedJob, jobBefore, comesBefore, rank, present}
 use Rattle.rules.specs.Slot.{chosen, ran, opened, workedJob}
 use Rattle.rules.specs.Replay.{setupIn, releasedAt, stateAt, ranAt}
+use Rattle.lists.specs.Sums.{count-mono}
 use Rattle.bridge.specs.Steps.{openedJob, judgedJob, lowers}
 use Rattle.bridge.specs.Jobs.{kind-normal, kind-demoted, kept-opened, goes-on, went-on, more-goes-on}
 use Rattle.bridge.specs.Stands.{readyAt, openAt, open-at, next-at}
 use Rattle.bridge.specs.Records.{at-first}
 use Rattle.lists.specs.Tests.{and-left, and-right, or-left}
-use Rattle.theory.specs.Counting.{and-both, count-mono}
+use Rattle.theory.specs.Counting.{and-both}
 
 -- the job a is there, is normal, has the deadline of b and at least as much left
 pub record Above (a b : Job) : Type 0 where
@@ -108,7 +109,8 @@ module _ (c : Case) (cf : demoting (c .policy) ≡ true) where
   runs-dom t i l h p q e =
       let oe = opened (setupIn E) t (releasedAt E t) (stateAt E t) in
       let of = opened (setupIn c) t (releasedAt c t) (stateAt c t) in
-      let fewer : countIn (λ j. comesBefore (setupIn c) t of j i) 0 maxTasks ≤ countIn (λ j. comesBefore (setupIn E) t oe j i) 0 maxTasks =
+      let fewer : countIn (λ j. comesBefore (setupIn c) t of j i) 0 maxTasks
+      ≤ countIn (λ j. comesBefore (setupIn E) t oe j i) 0 maxTasks =
       count-mono (λ j. comesBefore (setupIn c) t of j i) (λ j. comesBefore (setupIn E) t oe j i) 0 maxTasks (λ j x y b.
       rw (open-at E j (omega arith) t, open-at E i l t) (before (c .policy) t
       (openAt E t j) (openAt c t j) (openAt E t i) (openAt c t i) j i cf (h j (omega arith)) (h i l) p q

@@ -138,7 +138,8 @@ module _ (c : Case) (g : Legal c) (i : ℕ) (l : i < maxTasks) where
 
   pub left-release : isPresent (jobAt (closing c) i) ≡ true
       → (j : ℕ)
-      × ((j < releaseCount (c .trace)) × (taskAt c j ≡ i) × (dueOf (jobAt (closing c) i) ≡ timeOf (c .trace) j + deadline (c .table) i))
+      × ((j < releaseCount (c .trace)) × (taskAt c j ≡ i)
+      × (dueOf (jobAt (closing c) i) ≡ timeOf (c .trace) j + deadline (c .table) i))
   left-release e = place c g i l _ _ (jobAt (closing c) i) (left-from c g i l e)
 
 -- ---- the open records are as many as the jobs that are left

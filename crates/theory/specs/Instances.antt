@@ -11,11 +11,13 @@ use Rattle.rules.specs.Words.{sum, countIn, firstIn, tab, mapFrom}
 use Rattle.rules.specs.Case.{Case, caseOf}
 use Rattle.rules.specs.Policies.{edf, edfCf}
 use Rattle.rules.specs.Counts.{availability, availabilities, count, freeCount}
-use Rattle.rules.specs.Refusals.{orNext, firstOf, procsFault, policyFault, tableFault, taskFault, endFault, traceFault, inOrder, lastBefore}
+use Rattle.rules.specs.Refusals.{orNext, firstOf, procsFault, policyFault, tableFault, taskFault, endFault, traceFault, inOrder}
+use Rattle.rules.specs.Refusals.{lastBefore}
 use Rattle.rules.specs.Refusals.{releaseFault, caseFault, Accepted}
 use Rattle.rules.specs.Slot.{present, judged, joined, demoted, jobsNow, contentionFree, lowered, opened, jobBefore, rank, chosen, worked}
 use Rattle.rules.specs.Slot.{after, ran, finished, demotedNow}
-use Rattle.rules.specs.Replay.{setupIn, releasedIn, releasedAt, stateFrom, stateAt, ranAt, finishedAt, demotedAt, contentionFreeAt, slotsBy}
+use Rattle.rules.specs.Replay.{setupIn, releasedIn, releasedAt, stateFrom, stateAt, ranAt, finishedAt, demotedAt, contentionFreeAt}
+use Rattle.rules.specs.Replay.{slotsBy}
 use Rattle.rules.specs.Replay.{finishBy, demotionBy, verdictBy, recordOf, recordBy}
 use Rattle.bridge.specs.Course.{Course, stateIn, contentionFreeIn, demotedIn, finishedIn, finishIn, demotionIn}
 use Rattle.legal.specs.Legal.{legal}
@@ -24,7 +26,8 @@ use Rattle.theory.specs.Accept.{lawful}
 
 -- document 01's set A, m = 2: all three tasks released at 0
 abbrev pub caseA : ℕ → ℕ → Case
-caseA policy end = caseOf 2 policy (10 ∷ 1 ∷ 4 ∷ 10 ∷ 1 ∷ 1 ∷ 10 ∷ 5 ∷ 5 ∷ []) end (0 ∷ 1 ∷ 0 ∷ 2 ∷ 0 ∷ 3 ∷ [])
+caseA policy end = caseOf 2 policy (10 ∷ 1 ∷ 4 ∷ 10 ∷ 1 ∷ 1 ∷ 10 ∷ 5 ∷ 5 ∷ []) end (0 ∷ 1 ∷ 0 ∷ 2 ∷ 0 ∷ 3
+    ∷ [])
 
 -- m = 1, tasks (4, 1, 4) and (4, 3, 3), both released at 0: task 1 has one contention-free slot, the last before its deadline
 abbrev pub tight : ℕ → Case

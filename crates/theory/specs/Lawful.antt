@@ -10,17 +10,18 @@ use Rattle.rules.specs.Case.{Case, taskCount, period, execution, deadline}
 use Rattle.rules.specs.Policies.{demoting}
 use Rattle.rules.specs.Slot.{isPresent, isDemoted, present, isDemotedNow, readied, contentionFree, jobsNow, ran}
 use Rattle.rules.specs.Replay.{setupIn, ranAt, contentionFreeAt}
+use Rattle.lists.specs.Sums.{count-cong}
 use Rattle.bridge.specs.Steps.{readied-full, readied-at, demoted-at, demotedJob}
 use Rattle.bridge.specs.Jobs.{Kept, kept-demoted, kept-opened}
 use Rattle.bridge.specs.Course.{Course, stateIn, openedIn, countedIn, contentionFreeIn, foundIn, openIn, course-full, open-in}
 use Rattle.bridge.specs.Stands.{replayOf, replay-state}
 use Rattle.legal.specs.Legal.{Good}
-use Rattle.theory.specs.Counting.{count-cong}
 use Rattle.theory.specs.Order.{chosen-all}
 
 -- before time e, every job that is there in a contention-free slot is worked in it: all that parts 1 and 2 ask of a scheduler
 abbrev pub Attends : Course → ℕ → Type 0
-Attends k e = (t i : ℕ) → t < e → i < maxTasks → contentionFreeIn k t ≡ true → present (openedIn k t) i ≡ true → k .works t i ≡ true
+Attends k e = (t i : ℕ) → t < e → i < maxTasks → contentionFreeIn k t ≡ true → present (openedIn k t) i ≡ true
+    → k .works t i ≡ true
 
 -- the releases are of tasks of a good table, and those of one task are at least T apart
 pub record Lawful (k : Course) : Type 0 where

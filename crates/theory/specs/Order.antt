@@ -15,9 +15,10 @@ use Rattle.rules.specs.Words.{countIn}
 use Rattle.rules.specs.Limits.{maxTasks}
 use Rattle.rules.specs.Slot.{Setup, jobAt, isPresent, isDemoted, kind, dueOf, inTurn, present, jobsNow, jobBefore, comesBefore, rank}
 use Rattle.rules.specs.Slot.{chosen}
+use Rattle.lists.specs.Sums.{count-lt}
 use Rattle.bridge.specs.Jobs.{kind-normal, kind-demoted}
 use Rattle.lists.specs.Tests.{and-left, and-right}
-use Rattle.theory.specs.Counting.{and-both, count-lt, ranked}
+use Rattle.theory.specs.Counting.{and-both, ranked}
 
 -- ---- one key of the order
 turn-cases : (a b : ℕ) (x : Bool) → inTurn a b x ≡ true → (a < b) ⊎ ((a ≡ b) × (x ≡ true))
@@ -100,7 +101,8 @@ module _ (g : Setup) (now : ℕ) (r : Run) where
       count-lt (λ j. comesBefore g now r j i) (present r) 0 maxTasks
       (λ j x y h. and-left (isPresent (jobAt r j)) _ h) i (omega arith) (omega arith) (self i) e
 
-  rank-distinct : (i j : ℕ) → i < j → j < maxTasks → present r i ≡ true → present r j ≡ true → rank g now r i ≡ rank g now r j → ⊥
+  rank-distinct : (i j : ℕ) → i < j → j < maxTasks → present r i ≡ true → present r j ≡ true
+      → rank g now r i ≡ rank g now r j → ⊥
   unfolding present
   rank-distinct i j h l x y e = go (before-total (g .policy) now (jobAt r i) (jobAt r j) i j h x y)
     where
@@ -114,7 +116,8 @@ module _ (g : Setup) (now : ℕ) (r : Run) where
   chosen-exactly = ranked (present r) (rank g now r) maxTasks rank-below rank-distinct (g .procs)
 
   -- whoever comes before a job that runs, runs
-  pub chosen-down : (j i : ℕ) → j < maxTasks → comesBefore g now r j i ≡ true → chosen g now r i ≡ true → chosen g now r j ≡ true
+  pub chosen-down : (j i : ℕ) → j < maxTasks → comesBefore g now r j i ≡ true → chosen g now r i ≡ true
+      → chosen g now r j ≡ true
   unfolding chosen present jobBefore
   chosen-down j i l b e =
       let k : rank g now r i < g .procs = ltb-true _ _ (and-right (isPresent (jobAt r i)) _ e) in

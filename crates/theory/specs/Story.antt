@@ -25,7 +25,8 @@ story calm works a j (suc n) =
 
 -- in its first D slots the job is worked in each contention-free one that finds it there
 abbrev pub Attended : (ℕ → Bool) → (ℕ → Bool) → ℕ → Job → ℕ → Type 0
-Attended calm works a j D = (n : ℕ) → n < D → calm (a + n) ≡ true → isPresent (story calm works a j n) ≡ true → works (a + n) ≡ true
+Attended calm works a j D = (n : ℕ) → n < D → calm (a + n) ≡ true → isPresent (story calm works a j n) ≡ true
+    → works (a + n) ≡ true
 
 -- what is owed to a job of free count F that is there: it has something left; while normal it still counts F less s; once demoted it has
 -- no more left than F less u

@@ -30,7 +30,8 @@ open-says zero false e = (refl, refl)
 open-says (suc f) come e = absurd (omega arith)
 
 -- ---- each record is marked with just one of the three
-one-mark : (f : ℕ) (come : Bool) → bit (eqb (verdictOf f come) 1) + bit (eqb (verdictOf f come) 2) + bit (eqb (verdictOf f come) 3) ≡ 1
+one-mark : (f : ℕ) (come : Bool) → bit (eqb (verdictOf f come) 1) + bit (eqb (verdictOf f come) 2) + bit (eqb (verdictOf f come) 3)
+    ≡ 1
 one-mark zero true = refl
 one-mark zero false = refl
 one-mark (suc f) come = refl

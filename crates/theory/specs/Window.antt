@@ -1,5 +1,5 @@
--- Jobs released at least T apart, each there for at most D ≤ T slots, are there in at most `availability T D l` (rules, Counts) slots of a
--- window of length l: the heart of source document 001, Lemma 2. Enough sums it over the tasks.
+-- Jobs released at least T apart, each there for at most D ≤ T slots, are there in at most `availability T D l` (rules, Counts) slots of
+-- a window of length l: the heart of source document 001, Lemma 2. Enough sums it over the tasks.
 use mathlib.Core.Path.{_≡_, refl, ap}
 use mathlib.Core.Bool.{Bool, true, false, _&&_, _||_, and-false, or-false}
 use mathlib.Core.List.{List, [], _∷_}

@@ -13,7 +13,8 @@ use Rattle.wishes.specs.declared.Wish.{Wish}
 use Rattle.wishes.specs.declared.Wish.the-variants.{Unknown, Help, Replay, Counts, Slot, Write}
 use Rattle.wishes.proofs.Wish.{the-type}
 
-none-of-five : {a b d e f x : ℕ} → OneOf (a ∷ b ∷ d ∷ e ∷ f ∷ []) x → (x ≡ a → ⊥) → (x ≡ b → ⊥) → (x ≡ d → ⊥) → (x ≡ e → ⊥) → (x ≡ f → ⊥)
+none-of-five : {a b d e f x : ℕ} → OneOf (a ∷ b ∷ d ∷ e ∷ f ∷ []) x → (x ≡ a → ⊥) → (x ≡ b → ⊥)
+    → (x ≡ d → ⊥) → (x ≡ e → ⊥) → (x ≡ f → ⊥)
     → ⊥
 none-of-five h p q r s t = ⊎-elim p (⊎-elim q (⊎-elim r (⊎-elim s t))) h
 
@@ -39,7 +40,8 @@ some-asked (Slot s) h = refl
 some-asked Write h = refl
 
 -- ---- too many words, or none
-pub many : (n : ℕ) (a b c : List ℕ) → ((((Unit {0} × (n ≡ 1 → ⊥)) × (n ≡ 2 → ⊥)) × (n ≡ 3 → ⊥)) × (n ≡ 4 → ⊥))
+pub many : (n : ℕ) (a b c : List ℕ) → ((((Unit {0} × (n ≡ 1 → ⊥)) × (n ≡ 2 → ⊥)) × (n ≡ 3 → ⊥))
+    × (n ≡ 4 → ⊥))
     → askedOf Unknown false ≡ wordsAsk n a b c
 unfolding wordsAsk
 many zero a b c h = refl

@@ -21,7 +21,8 @@ pub same-on : (a b : List ℕ) (i : ℕ) → i < length a → i < length b → g
 unfolding same
 same-on a b i h k e = rw (add-one, drop-cons a i 0 h, drop-cons b i 0 k, eq-eqb _ _ e)
 
-pub same-off : (a b : List ℕ) (i : ℕ) → i < length a → i < length b → (getD a i 0 ≡ getD b i 0 → ⊥) → same (drop i a) (drop i b) ≡ false
+pub same-off : (a b : List ℕ) (i : ℕ) → i < length a → i < length b → (getD a i 0 ≡ getD b i 0 → ⊥)
+    → same (drop i a) (drop i b) ≡ false
 unfolding same
 same-off a b i h k e = rw (drop-cons a i 0 h, drop-cons b i 0 k, ne-eqb _ _ e)
 

@@ -32,7 +32,8 @@ module _ (c : Case) (n : ℕ) (f : Fault) where
   unfolding writeFault
   case-at-fault e h = stop f (caseFault c) _ e h
 
-  pub room-at-fault : caseFault c .number ≡ 0 → f ≡ roomFault (length (caseText c)) n → (f .number ≡ 0 → ⊥) → f ≡ writeFault c n
+  pub room-at-fault : caseFault c .number ≡ 0 → f ≡ roomFault (length (caseText c)) n → (f .number ≡ 0 → ⊥)
+      → f ≡ writeFault c n
   unfolding writeFault
   room-at-fault a e h = stop f (roomFault (length (caseText c)) n) noFault e h ∙ sym (next-none (caseFault c) _ a)
 
@@ -47,7 +48,8 @@ pub refused : (c : Case) (room : List ℕ) (f : Fault) → f ≡ writeFault c (l
 unfolding writeAnswer writeBytes
 refused c room f e h = record { answer = refuses f _ e _ h; left = leaves f _ e _ _ h }
 
-pub written : (c : Case) (room new : List ℕ) (n : ℕ) → writeFault c (length room) .number ≡ 0 → length (caseText c) ≤ length room
+pub written : (c : Case) (room new : List ℕ) (n : ℕ) → writeFault c (length room) .number ≡ 0
+    → length (caseText c) ≤ length room
     → Laid 0 (caseText c) room new n
     → WritePromise c room (Written·.Text n) new
 unfolding writeAnswer writeBytes

@@ -51,7 +51,8 @@ module _ (word width : ℕ) (vs : List ℕ) where
       ))
 
   -- a row and those before it take no more than all
-  pub rows-le : (i n : ℕ) → i < n → length (rowsText word width vs i) + length (rowText word width vs i) ≤ length (rowsText word width vs n)
+  pub rows-le : (i n : ℕ) → i < n → length (rowsText word width vs i) + length (rowText word width vs i)
+      ≤ length (rowsText word width vs n)
   rows-le i n h =
       let e : suc i + (n - suc i) ≡ n = omega arith in
       omega (
@@ -69,7 +70,8 @@ module _ (word width : ℕ) (vs : List ℕ) where
   rows-length k (suc n) e =
       let row = take width (drop (n * width) vs) in
       let before = take (n * width) vs in
-      let numbers : take (suc n * width) vs ≡ before ++ row = ap (λ (z : ℕ). take z vs) (suc-mul n width) ∙ take-add (n * width) width vs in
+      let numbers : take (suc n * width) vs ≡ before ++ row =
+      ap (λ (z : ℕ). take z vs) (suc-mul n width) ∙ take-add (n * width) width vs in
       rw numbers
       (omega (
         arith,
@@ -95,7 +97,8 @@ pub task-rows : (ts : List ℕ) → joinedText (tab (taskText ts) 0 (taskCount t
 unfolding rowsText
 task-rows ts = ap joinedText (tab-cong (taskText ts) (rowText 3 taskWidth ts) 0 (taskCount ts) (λ i p q. task-row ts i (omega arith)))
 
-pub release-rows : (rs : List ℕ) → joinedText (tab (releaseText rs) 0 (releaseCount rs)) ≡ rowsText 5 releaseWidth rs (releaseCount rs)
+pub release-rows : (rs : List ℕ) → joinedText (tab (releaseText rs) 0 (releaseCount rs))
+    ≡ rowsText 5 releaseWidth rs (releaseCount rs)
 unfolding rowsText
 release-rows rs = ap joinedText
     (tab-cong (releaseText rs) (rowText 5 releaseWidth rs) 0 (releaseCount rs) (λ j p q. release-row rs j (omega arith)))

@@ -52,7 +52,10 @@ unfolding runningAnswer
 returns-2 c =
     let e = c .before .before .before .before .before .before .before .running-fault .ensures in
     let n = c .set-number .ensures ∙ array-number _ _ (c .before .before .walk .ensures .0 _ (add-one _)) in
-    record { answer = ap (λ (x : ℕ). result (x ∷ [])) n ∙ settles _ _ e _ (c .before .before .before .before .before .before .if1 .left) }
+    record {
+      answer = ap (λ (x : ℕ). result (x ∷ [])) n
+          ∙ settles _ _ e _ (c .before .before .before .before .before .before .if1 .left);
+    }
 
 pub running-spec : {M : Type 1} → statement M
 running-spec =

@@ -81,7 +81,8 @@ returns-2 : tie.Need-returns-2 Inv-loop μ-loop
 returns-2 c =
     let l = c .before .loop in
     let count = c .before .before .release-count .ensures in
-    let t = taking-done _ _ (l .k) _ _ (c .before .before .before .before .before .pre .0) (λ h e. omega (arith, c .loop-test .left, count))
+    let t = taking-done _ _ (l .k) _ _ (c .before .before .before .before .before .pre .0)
+    (λ h e. omega (arith, c .loop-test .left, count))
     (l .inv .1) in
     (t .reached, t .at-place, t .at-released)
 

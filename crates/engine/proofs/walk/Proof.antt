@@ -14,11 +14,13 @@ use Rattle.engine.proofs.walk.Statement.{statement}
 use Rattle.engine.proofs.walk.Tie as tie
 
 abbrev Inv-loop : tie.InvT-loop
-Inv-loop procs policy table end trace until noting out₀ counts run₀ place₀ next₀ jobs₀ ran₀ clock₀ out run place next jobs ran clock =
+Inv-loop procs policy table end trace until noting out₀ counts run₀ place₀ next₀ jobs₀ ran₀ clock₀ out run place next jobs ran
+    clock =
     Going (caseOf procs policy table end trace) until noting out₀ clock run place next jobs ran out
 
 abbrev μ-loop : tie.MeasureT-loop
-μ-loop procs policy table end trace until noting out₀ counts run₀ place₀ next₀ jobs₀ ran₀ clock₀ out run place next jobs ran clock =
+μ-loop procs policy table end trace until noting out₀ counts run₀ place₀ next₀ jobs₀ ran₀ clock₀ out run place next jobs ran
+    clock =
     until - clock
 
 loop-holds : tie.Need-loop-holds Inv-loop μ-loop

@@ -11,7 +11,8 @@ use Rattle.kinds.proofs.release_fields.Tie as tie
 -- the first field is the time
 time-read : (c : tie.After-time) → numberIn (fieldOf (c .before .before .before .before .before .args .s .now))
     ≡ Value (c .time .given .0 .0)
-time-read c = ap numberIn (sym (c .before .before .before .field .ensures)) ∙ sym (c .before .before .number .ensures) ∙ c .time .given .1
+time-read c = ap numberIn (sym (c .before .before .before .field .ensures)) ∙ sym (c .before .before .number .ensures)
+    ∙ c .time .given .1
 
 field-requires : tie.Need-field-requires
 field-requires c κs = search needs

@@ -34,7 +34,8 @@ put-numbers-requires c κs =
     let a = c .before .before .before .before .before .before .before .args in
     omega (arith, worded (c .before .before .before .before), numbers-room spaceByte (a .time ∷ a .task ∷ a .due ∷ []))
 
-numbered : (c : tie.After-put-numbers) → (c .put-numbers .result + outcomeRoom + 1 ≤ jobRoom) × (jobRoom ≤ length (c .put-numbers .last .0))
+numbered : (c : tie.After-put-numbers) → (c .put-numbers .result + outcomeRoom + 1 ≤ jobRoom)
+    × (jobRoom ≤ length (c .put-numbers .last .0))
 numbered c =
     let a = c .before .before .before .before .before .before .before .before .args in
     let put = c .put-numbers in

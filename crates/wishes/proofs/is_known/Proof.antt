@@ -31,7 +31,8 @@ past-second : (c : tie.Else2) → isKnown (word (c .before .before .before)) ≡
 unfolding words signBytes
 past-second c = past-first (c .before .before .before) ∙ rw (sym (c .before .same-bytes .ensures) ∙ c .if2 .left)
 
-past-third : (c : tie.After-alone) → isKnown (word (c .before .before .before .before .before .before .before)) ≡ isAsked (c .alone .result)
+past-third : (c : tie.After-alone) → isKnown (word (c .before .before .before .before .before .before .before))
+    ≡ isAsked (c .alone .result)
 unfolding isNumber
 past-third c =
     let told = c .before in

@@ -15,7 +15,8 @@ slice-aggregate-put-line : tie.Need-slice-aggregate-put-line
 slice-aggregate-put-line c = search needs
 
 -- both lines have room
-parts : (c : tie.Start) → length (numberLine 9 1 (c .args .procs ∷ [])) + length (policyText (c .args .policy)) ≤ length (c .args .out .now)
+parts : (c : tie.Start) → length (numberLine 9 1 (c .args .procs ∷ [])) + length (policyText (c .args .policy))
+    ≤ length (c .args .out .now)
 unfolding headText procsText wordOf
 parts c = omega (arith, length-append (procsText (c .args .procs)) (policyText (c .args .policy)))
 

@@ -16,7 +16,8 @@ use Rattle.writer.proofs.put_tail.Statement.{statement}
 use Rattle.writer.proofs.put_tail.Tie as tie
 
 -- the end line and the releases have room
-parts : (c : tie.Start) → c .args .at + length (numberLine 9 4 (c .args .end ∷ [])) + length (rowsText 5 releaseWidth (c .args .trace .now)
+parts : (c : tie.Start) → c .args .at + length (numberLine 9 4 (c .args .end ∷ [])) + length
+    (rowsText 5 releaseWidth (c .args .trace .now)
     (releaseCount (c .args .trace .now))) ≤ length (c .args .out .now)
 unfolding tailText endText wordOf
 parts c =
