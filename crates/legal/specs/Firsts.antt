@@ -1,6 +1,6 @@
 -- The first fault of many tests, as a loop or a row of tests finds it: laws of `unless`, `orNext`, `first` and `firstOf` (rules, Refusals).
 -- A row is proved here once for any list of tests. Cited by Passing, Legal and the proofs of every call's checks.
-use mathlib.Core.Path.{_≡_, refl, ap, sym, _∙_}
+use mathlib.Core.Path.{_≡_, refl, ap, ap₂, sym, _∙_}
 use mathlib.Core.Bool.{Bool, true, false}
 use mathlib.Core.Logic.{_⊎_, inl, inr}
 use mathlib.Core.List.{List, [], _∷_, _++_}
@@ -31,6 +31,15 @@ next-none f g e = rw (eq-eqb (f .number) 0 e)
 pub next-some : (f g : Fault) → (f .number ≡ 0 → ⊥) → orNext f g ≡ f
 unfolding orNext
 next-some f g h = rw (ne-eqb (f .number) 0 h)
+
+-- the second is asked only where the first finds nothing
+pub next-same : (f g h : Fault) → (f .number ≡ 0 → g ≡ h) → orNext f g ≡ orNext f h
+unfolding orNext
+next-same f g h e = go (eqb (f .number) 0) refl
+  where
+    go : (b : Bool) → eqb (f .number) 0 ≡ b → pick b g f ≡ pick b h f
+    go true q = e (eqb-true _ _ q)
+    go false q = refl
 
 pub next-clear : (f g : Fault) → orNext f g .number ≡ 0 → (f .number ≡ 0) × (g .number ≡ 0)
 unfolding orNext
@@ -99,6 +108,20 @@ none-yet f = refl
 pub none-more : (f : ℕ → Fault) (i : ℕ) → firstOf f i ≡ noFault → f i ≡ noFault → firstOf f (i + 1) ≡ noFault
 unfolding firstOf orNext
 none-more f i a b = rw (add-one i, a, b)
+
+pub first-more : (f : ℕ → Fault) (i : ℕ) → firstOf f (i + 1) ≡ orNext (firstOf f i) (f i)
+unfolding firstOf
+first-more f i = rw (add-one i)
+
+pub first-same : (f g : ℕ → Fault) (n : ℕ) → ((i : ℕ) → i < n → f i ≡ g i) → firstOf f n ≡ firstOf g n
+unfolding firstOf
+first-same f g zero h = refl
+first-same f g (suc n) h = ap₂ orNext (first-same f g n (λ i l. h i (omega arith))) (h n (omega arith))
+
+-- no test of many fails
+pub none-all : (f : ℕ → Fault) (n : ℕ) → ((j : ℕ) → j < n → f j ≡ noFault) → firstOf f n ≡ noFault
+none-all f zero h = none-yet f
+none-all f (suc n) h = rw (add-one n) at (none-more f n (none-all f n (λ j l. h j (omega arith))) (h n (omega arith)))
 
 first-from : (f : ℕ → Fault) (i d : ℕ) → firstOf f i ≡ noFault → (f i .number ≡ 0 → ⊥) → firstOf f (suc (i + d)) ≡ f i
 unfolding firstOf orNext

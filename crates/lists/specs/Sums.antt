@@ -1,7 +1,7 @@
 -- Sums over a window of numbers, and counting in it: laws of `sum` and `countIn` (rules, Words). Nothing of scheduling.
 -- Cited wherever jobs or slots are counted: by the records in the lent room and, in the crate theory, by part 1 of demand 3.
 use mathlib.Core.Path.{_≡_, refl, ap, sym, _∙_}
-use mathlib.Core.Bool.{Bool, true, false}
+use mathlib.Core.Bool.{Bool, true, false, false≢true}
 use Prim.Native.Nat.{ℕ, zero, suc, _+_, _*_, _≤_, _<_}
 use native.Mathlib.Nat.{add-zero, add-suc, suc-add, add-assoc}
 use native.Mathlib.Decide.{decLt}
@@ -89,3 +89,20 @@ count-lt p q a (suc l) h j x y pj qj = go (decLt j (a + l)) (count-lt p q a l (�
     go (no k) ih =
         let e : a + l ≡ j = omega arith in
         omega (arith, count-mono p q a l (λ t u v. h t u (omega arith)), ap bit (ap p e ∙ pj), ap bit (ap q e ∙ qj))
+
+-- ---- a count of none, and of some
+pub count-none : (p : ℕ → Bool) (a l : ℕ) → ((t : ℕ) → a ≤ t → t < a + l → p t ≡ false) → countIn p a l ≡ 0
+count-none p a l h = count-cong p (λ t. false) a l h ∙ omega (arith, sum-const 0 a l)
+
+pub count-there : (p : ℕ → Bool) (a l j : ℕ) → a ≤ j → j < a + l → p j ≡ true → 1 ≤ countIn p a l
+count-there p a l j x y e = omega (arith, count-lt (λ t. false) p a l (λ t u v q. absurd (false≢true q)) j x y refl e)
+
+pub count-some : (p : ℕ → Bool) (a l : ℕ) → 1 ≤ countIn p a l → (j : ℕ) × ((a ≤ j) × (j < a + l) × (p j ≡ true))
+unfolding sum
+count-some p a zero h = absurd (omega arith)
+count-some p a (suc l) h = go (p (a + l)) refl (count-some p a l) h
+  where
+    go : (b : Bool) → p (a + l) ≡ b → (1 ≤ countIn p a l → (j : ℕ) × ((a ≤ j) × (j < a + l) × (p j ≡ true)))
+        → 1 ≤ countIn p a l + bit b → (j : ℕ) × ((a ≤ j) × (j < a + suc l) × (p j ≡ true))
+    go true q earlier z = (a + l, (omega arith, omega arith, q))
+    go false q earlier z = let r = earlier (omega arith) in (r .0, (r .1 .0, omega (arith, r .1 .1), r .1 .2))

@@ -10,13 +10,10 @@ use lib.Dec.{eqb, ltb, leb}
 use borrow.Author.Tests.{eqb-true, eq-eqb, le-leb, lt-leb, lt-ltb, le-ltb}
 use Rattle.rules.specs.Words.{bit, sum, countIn, orElse, firstIn}
 use Rattle.lists.specs.Tests.{never-true, and-left, and-right}
-use Rattle.lists.specs.Sums.{bit-le, sum-mono, sum-cong, sum-add, sum-mul, sum-const, count-cong, count-lt}
+use Rattle.lists.specs.Sums.{bit-le, sum-mono, sum-cong, sum-add, sum-mul, sum-const, count-cong, count-none, count-there}
 
 pub and-both : (a b : Bool) → a ≡ true → b ≡ true → (a && b) ≡ true
 and-both a b p q = rw (p, q)
-
-pub count-none : (p : ℕ → Bool) (a l : ℕ) → ((t : ℕ) → a ≤ t → t < a + l → p t ≡ false) → countIn p a l ≡ 0
-count-none p a l h = count-cong p (λ t. false) a l h ∙ omega (arith, sum-const 0 a l)
 
 -- a test that no two pass
 pub count-one : (p : ℕ → Bool) (a l : ℕ) → ((i j : ℕ) → i < j → j < a + l → p i ≡ true → p j ≡ true → ⊥)
@@ -32,11 +29,7 @@ count-one p a (suc l) h = go (p (a + l)) refl (count-one p a l (λ i j x y. h i 
 -- a test that one passes, and no two
 pub count-only : (p : ℕ → Bool) (a l j : ℕ) → a ≤ j → j < a + l → p j ≡ true
     → ((i j : ℕ) → i < j → j < a + l → p i ≡ true → p j ≡ true → ⊥) → countIn p a l ≡ 1
-count-only p a l j x y e h = omega (
-  arith,
-  count-one p a l h,
-  count-lt (λ t. false) p a l (λ t u v q. absurd (false≢true q)) j x y refl e,
-)
+count-only p a l j x y e h = omega (arith, count-one p a l h, count-there p a l j x y e)
 
 -- ---- Markov's inequality: the slots in which f is over m have at least m + 1 each of f's sum
 pub over-count : (f : ℕ → ℕ) (m a l : ℕ) → suc m * countIn (λ t. ltb m (f t)) a l ≤ sum f a l

@@ -13,14 +13,14 @@ use Rattle.rules.specs.Limits.{maxTasks}
 use Rattle.rules.specs.Case.{Case, deadline, releaseCount, timeOf, nameOf}
 use Rattle.rules.specs.Slot.{jobAt, isPresent, dueOf, present, jobsNow, isMissed, missed}
 use Rattle.rules.specs.Replay.{releasedAt, stateAt, closing, missedAt, slotsBy, finishBy, demotionBy, verdictOf, verdictBy, recordBy}
-use Rattle.lists.specs.Sums.{sum-cong, sum-swap}
+use Rattle.lists.specs.Sums.{sum-cong, sum-swap, count-none}
 use Rattle.bridge.specs.Steps.{judgedJob, judged-at}
 use Rattle.bridge.specs.Jobs.{Stand}
 use Rattle.bridge.specs.Stands.{state-full, stands, replayOf, replay-state}
 use Rattle.legal.specs.Legal.{Legal}
 use Rattle.lists.specs.Tests.{never-true, and-left, and-right}
 use Rattle.bridge.specs.Records.{released-some, taskAt, good-at, sole}
-use Rattle.theory.specs.Counting.{and-both, count-none, count-only}
+use Rattle.theory.specs.Counting.{and-both, count-only}
 use Rattle.theory.specs.Enough.{From, judged-from, state-from}
 use Rattle.theory.specs.Accept.{lawful, stand-due}
 use Rattle.theory.specs.Verdicts.{missed-says, open-says}

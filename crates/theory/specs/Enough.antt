@@ -17,11 +17,11 @@ use Rattle.rules.specs.Case.{taskCount, period, deadline}
 use Rattle.rules.specs.Counts.{availability, availabilities, count, freeCount}
 use Rattle.rules.specs.Slot.{freeCountIn, jobAt, isPresent, dueOf, isMissed, contentionFree, workedJob}
 use Rattle.bridge.specs.Steps.{judgedJob}
-use Rattle.lists.specs.Sums.{sum-split, sum-mono, sum-const, sum-swap, count-cong, count-mono}
+use Rattle.lists.specs.Sums.{sum-split, sum-mono, sum-const, sum-swap, count-cong, count-mono, count-none}
 use Rattle.lists.specs.Tests.{never-true}
 use Rattle.bridge.specs.Jobs.{went-on}
 use Rattle.bridge.specs.Course.{Course, stateIn, contentionFreeIn, foundIn, openIn, course-first, next-in}
-use Rattle.theory.specs.Counting.{count-none, over-count, count-both}
+use Rattle.theory.specs.Counting.{over-count, count-both}
 use Rattle.theory.specs.Window.{span-in, spanned, window}
 use Rattle.theory.specs.Release.{times, sporadic, in-times}
 use Rattle.theory.specs.Lawful.{Lawful, kept-in, jobs-found}
