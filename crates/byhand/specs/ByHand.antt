@@ -17,7 +17,7 @@ use Rattle.rules.specs.Replay.{releasedIn, stateFrom, stateAt, ranAt, finishedA
 use Rattle.rules.specs.Replay.{recordBy, marked, numbers, Record, recordOf, records}
 use Rattle.rules.specs.Refusals.{orNext, firstOf, procsFault, policyFault, tableFault, taskFault, endFault, traceFault, inOrder}
 use Rattle.rules.specs.Refusals.{lastBefore}
-use Rattle.rules.specs.Refusals.{releaseFault, roomFault, slotFault, caseFault, countsFault, replayFault, runningFault}
+use Rattle.rules.specs.Refusals.{releaseFault, absentFault, roomFault, slotFault, caseFault, countsFault, replayFault, runningFault}
 use Rattle.rules.specs.Answers.{Answer, result, settled, kept}
 use Rattle.rules.specs.Calls.{countsAnswer, countsRoom, roomAfter, replayAnswer, replayRoom, runningAnswer}
 
@@ -169,8 +169,8 @@ asked :
 unfolding sum tab mapFrom availability availabilities count freeCount
     present judged joined demoted jobsNow contentionFree lowered opened jobBefore rank chosen worked after ran setNumber
     releasedIn stateFrom stateAt ranAt
-    orNext firstOf procsFault policyFault tableFault taskFault endFault traceFault inOrder lastBefore releaseFault roomFault slotFault
-    caseFault countsFault runningFault settled kept countsAnswer countsRoom runningAnswer
+    orNext firstOf procsFault policyFault tableFault taskFault endFault traceFault inOrder lastBefore releaseFault absentFault
+    roomFault slotFault caseFault countsFault runningFault settled kept countsAnswer countsRoom runningAnswer
 asked = (refl, refl, refl, refl, refl, refl, refl)
 
 -- the records of the cases that are replayed
@@ -194,8 +194,8 @@ replayed :
     Stands A-edf × Stands A-edf-cf ×
     Stands (B-10 edf) × Stands (B-10 edfCf) × Stands (B-9 edf) × Stands (B-9 edfCf) ×
     Stands one-task × Stands (two-tasks edf) × Stands (two-tasks edfCf)
-unfolding marked numbers
-    orNext firstOf procsFault policyFault tableFault taskFault endFault traceFault inOrder lastBefore releaseFault roomFault
+unfolding sum marked numbers
+    orNext firstOf procsFault policyFault tableFault taskFault endFault traceFault inOrder lastBefore releaseFault absentFault roomFault
     caseFault replayFault settled kept
 replayed = (
   answered (setA edf) _ nine (known .0) ∙ refl,

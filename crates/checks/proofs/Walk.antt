@@ -2,22 +2,24 @@
 use mathlib.Core.Path.{_≡_, refl, ap, sym, _∙_}
 use mathlib.Core.Bool.{Bool, true, false, _&&_, false≢true}
 use mathlib.Core.List.{List, [], _∷_}
-use Prim.Native.Nat.{ℕ, suc, _+_, _-_, _≤_, _<_}
+use Prim.Native.Nat.{ℕ, zero, suc, _+_, _-_, _≤_, _<_}
 use native.Mathlib.Numerals.{add-one}
 use native.Mathlib.Omega.{arith}
-use lib.Dec.{eqb, ltb}
+use native.Mathlib.Nat.{add-zero, zero-add}
+use lib.Dec.{eqb, leb, ltb}
 use lib.ListN.{getD, set}
-use borrow.Author.Tests.{eq-eqb, ne-eqb}
+use borrow.Author.Tests.{eq-eqb, ne-eqb, le-leb}
 use Rattle.rules.specs.declared.Fault.{Fault}
-use Rattle.rules.specs.Words.{pick}
+use Rattle.rules.specs.Words.{pick, bit, sum, countIn}
 use Rattle.rules.specs.Limits.{maxTasks, maxEnd}
 use Rattle.rules.specs.Case.{taskCount, period, releaseCount, timeOf, nameOf}
-use Rattle.rules.specs.Refusals.{noFault, unless, orNext, first, firstOf, named, inOrder, apart, lastBefore, releaseFault, releasesFault}
+use Rattle.rules.specs.Refusals.{noFault, unless, orNext, first, firstOf, named, inOrder, apart, lastBefore, releaseFault}
+use Rattle.rules.specs.Refusals.{releasesFault, absentFault, absencesFault}
 use Rattle.lists.specs.Lists.{tab-at, tab-set}
 use Rattle.lists.specs.Tests.{and-left, and-right}
-use Rattle.legal.specs.Firsts.{unless-clear, AllClear, row-stop, row-passed, none-yet, none-more, first-hit}
+use Rattle.legal.specs.Firsts.{unless-clear, next-same, AllClear, row-stop, row-passed, none-yet, none-more, first-same, first-hit}
 use Rattle.legal.specs.Passing.{named-clear, Released, release-clear, release-none}
-use Rattle.checks.specs.Needs.{lasts, Early}
+use Rattle.checks.specs.Needs.{lasts, Early, ReleasesTested, unkeptFault}
 
 -- the tests of a release before the last one, and the last, 10, which is asked of a release that passes them
 abbrev pub nearTests : List ℕ → ℕ → List ℕ → ℕ → List Fault
@@ -129,10 +131,53 @@ module _ (ts : List ℕ) (e : ℕ) (rs : List ℕ) (j : ℕ) (f : Fault) (x : f 
         soon name h true = omega arith
         soon name h false = v .early name
 
-    pub checked-hit : j < releaseCount rs → (f .number ≡ 0 → ⊥) → f ≡ releasesFault ts e rs
-    checked-hit l h = first-hit (releaseFault ts e rs) j (releaseCount rs) l (v .none) f h (sym x)
+    pub checked-hit : (kept : List ℕ) → j < releaseCount rs → (f .number ≡ 0 → ⊥) → ReleasesTested ts e rs kept f
+    checked-hit kept l h = record {
+      found-first = first-hit (releaseFault ts e rs) j (releaseCount rs) l (v .none) f h (sym x);
+      all-kept = λ q. absurd (h q);
+    }
 
 pub checked-all : (ts : List ℕ) (e : ℕ) (rs last : List ℕ) (j : ℕ) → Checked ts e rs last j → j ≡ releaseCount rs
     → (f : Fault)
-    → f ≡ noFault → f ≡ releasesFault ts e rs
-checked-all ts e rs last j v z f h = h ∙ sym (rw z at (v .none))
+    → f ≡ noFault → ReleasesTested ts e rs last f
+checked-all ts e rs last j v z f h = record {
+  found-first = h ∙ sym (rw z at (v .none));
+  all-kept = λ q. rw z at (v .at-last);
+}
+
+-- ---- 16, from what is kept
+-- how many of the first n releases are of the task at i
+abbrev releasesSoFar : List ℕ → ℕ → ℕ → ℕ
+releasesSoFar rs i n = countIn (λ j. eqb (nameOf rs j) (suc i)) 0 n
+
+-- something is kept of a task exactly if it has a release
+kept-some : (rs : List ℕ) (i n : ℕ) → leb 1 (lastBefore rs n (suc i)) ≡ leb 1 (releasesSoFar rs i n)
+unfolding lastBefore sum
+kept-some rs i zero = refl
+kept-some rs i (suc n) = rw (zero-add n) (go (eqb (nameOf rs n) (suc i)) (kept-some rs i n))
+  where
+    go : (b : Bool) → leb 1 (lastBefore rs n (suc i)) ≡ leb 1 (releasesSoFar rs i n)
+        → leb 1 (pick b (suc (timeOf rs n)) (lastBefore rs n (suc i))) ≡ leb 1 (releasesSoFar rs i n + bit b)
+    go true q = le-leb 1 (suc (timeOf rs n)) (omega arith) ∙ sym (le-leb 1 (releasesSoFar rs i n + 1) (omega arith))
+    go false q = rw add-zero q
+
+unkept-one : (rs last : List ℕ) (i : ℕ) → last ≡ lasts rs (releaseCount rs) → i < maxTasks
+    → unkeptFault last i ≡ absentFault rs i
+unfolding unkeptFault absentFault
+unkept-one rs last i e h =
+    rw (e, tab-at (λ k. lastBefore rs (releaseCount rs) (suc k)) maxTasks i 0 h, kept-some rs i (releaseCount rs))
+
+unkept-absent : (ts rs last : List ℕ) → taskCount ts ≤ maxTasks → last ≡ lasts rs (releaseCount rs)
+    → firstOf (unkeptFault last) (taskCount ts) ≡ absencesFault ts rs
+unkept-absent ts rs last few e =
+    first-same (unkeptFault last) (absentFault rs) (taskCount ts) (λ i h. unkept-one rs last i e (omega arith))
+
+-- the releases are tested and then the tasks by what was kept: x is what the two tests in a row find
+pub both-tested : (ts : List ℕ) (e : ℕ) (rs last : List ℕ) (f g x : Fault) → taskCount ts ≤ maxTasks
+    → ReleasesTested ts e rs last f
+    → g ≡ firstOf (unkeptFault last) (taskCount ts) → x ≡ first (f ∷ g ∷ [])
+    → x ≡ first (releasesFault ts e rs ∷ absencesFault ts rs ∷ [])
+both-tested ts e rs last f g x few tested kept found =
+    found ∙ next-same f (first (g ∷ [])) (first (absencesFault ts rs ∷ []))
+    (λ z. ap (λ (h : Fault). first (h ∷ [])) (kept ∙ unkept-absent ts rs last few (tested .all-kept z)))
+    ∙ ap (λ (h : Fault). orNext h (first (absencesFault ts rs ∷ []))) (tested .found-first)

@@ -3,8 +3,8 @@ ghost use mathlib.Core.Path.{_≡_};
 ghost use Prim.Native.Nat.{ℕ, _≤_, _<_};
 ghost use Rattle.rules.specs.Limits.{maxTasks, maxEnd, maxReleases};
 ghost use Rattle.rules.specs.Case.{caseOf, taskCount, releaseCount};
-ghost use Rattle.rules.specs.Refusals.{first, tasksFault, releaseFault, releasesFault, caseFault, countsFault, replayFault, runningFault};
-ghost use Rattle.checks.specs.Needs.{Sound, lasts, Early, tableTests, headTests, traceTests};
+ghost use Rattle.rules.specs.Refusals.{first, firstOf, tasksFault, releaseFault, caseFault, countsFault, replayFault, runningFault};
+ghost use Rattle.checks.specs.Needs.{Sound, lasts, Early, ReleasesTested, unkeptFault, tableTests, headTests, traceTests};
 pub use faults::fault;
 pub use faults::room_fault;
 use rules::Fault;
@@ -61,17 +61,18 @@ pub fn release_fault(
     faults::first_of_three(unnamed, too_late, unordered)
 }
 
-pub fn releases_fault(table: &[u32], end: u32, trace: &[u32]) -> Fault
+// Release by release, each after those before it; what `last` then holds is known where none is refused.
+pub fn releases_fault(table: &[u32], end: u32, trace: &[u32], last: &mut [u32; MAX_TASKS]) -> Fault
     requires { ⌜ Sound (now table) × (releaseCount (now trace) ≤ maxReleases) × (end ≤ maxEnd) ⌝ }
-    ensures { λ r. ⌜ r ≡ releasesFault (now (table .entry)) end (now (trace .entry)) ⌝ }
+    ensures { λ r. ⌜ ReleasesTested (now (table .entry)) end (now (trace .entry)) (now (last .exit)) r ⌝ }
 {
+    *last = [0; MAX_TASKS];
     let releases = cases::release_count(trace);
-    let mut last: [u32; MAX_TASKS] = [0; MAX_TASKS];
     let mut j: usize = 0;
     while j < releases {
-        let found = release_fault(table, end, trace, j, &last);
-        let number = found.number;
-        if number != 0 {
+        let found = release_fault(table, end, trace, j, last);
+        let refused = found.number;
+        if refused != 0 {
             return found;
         }
         let time = cases::time_of(trace, j);
@@ -80,6 +81,22 @@ pub fn releases_fault(table: &[u32], end: u32, trace: &[u32]) -> Fault
         j += 1;
     }
     faults::fault(0, 0)
+}
+
+// 16, task by task, from what is kept of each one's last release: the trace is not gone through again.
+pub fn absences_fault(table: &[u32], last: &[u32; MAX_TASKS]) -> Fault
+    requires { ⌜ taskCount (now table) ≤ maxTasks ⌝ }
+    ensures { λ r. ⌜ r ≡ firstOf (unkeptFault (now (last .entry))) (taskCount (now (table .entry))) ⌝ }
+{
+    let tasks = cases::task_count(table);
+    let mut found = faults::fault(0, 0);
+    let mut i: usize = 0;
+    while i < tasks {
+        let next = faults::absent_fault(last[i], i);
+        found = faults::or_next(found, next);
+        i += 1;
+    }
+    found
 }
 
 // 5, then 6, which is asked of few tasks alone
@@ -103,7 +120,7 @@ pub fn head_checks(procs: u32, policy: u32, table: &[u32]) -> Fault
     faults::or_next(processors, faults::or_next(known, table_checks(table)))
 }
 
-// 7, 12, then release by release, which is asked of few releases before an end that stands
+// 7, 12, then release by release, which is asked of few releases before an end that stands, then 16
 pub fn trace_checks(table: &[u32], end: u32, trace: &[u32]) -> Fault
     requires { ⌜ Sound (now table) ⌝ }
     ensures { λ r. ⌜ r ≡ first (traceTests (now (table .entry)) end (now (trace .entry))) ⌝ }
@@ -113,8 +130,10 @@ pub fn trace_checks(table: &[u32], end: u32, trace: &[u32]) -> Fault
     if number != 0 {
         return size;
     }
-    let releases = releases_fault(table, end, trace);
-    faults::or_next(size, faults::first_of_one(releases))
+    let mut last: [u32; MAX_TASKS] = [0; MAX_TASKS];
+    let releases = releases_fault(table, end, trace, &mut last);
+    let absences = absences_fault(table, &last);
+    faults::or_next(size, faults::first_of_two(releases, absences))
 }
 
 // The checks on the numbers of a whole case, in their order.

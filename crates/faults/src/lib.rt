@@ -178,6 +178,14 @@ pub fn is_apart(last: u32, period: u32, time: u32) -> bool
     last - 1 + period <= time
 }
 
+// 16, of one task, from one more than the time of its last release, or 0
+pub fn absent_fault(last: u32, i: usize) -> Fault
+    requires { ⌜ i < maxTasks ⌝ }
+    ensures { λ r. ⌜ r ≡ unless (leb 1 last) 16 (suc i) ⌝ }
+{
+    refuse_unless(1 <= last, 16, (i + 1) as u32)
+}
+
 // 13
 pub fn room_fault(need: usize, room: usize) -> Fault
     ensures { λ r. ⌜ r ≡ roomFault need room ⌝ }

@@ -15,13 +15,13 @@ use Rattle.rules.specs.Words.{pick}
 use Rattle.rules.specs.Case.{Case, taskCount, period, execution, deadline, releaseCount, timeOf, nameOf}
 use Rattle.rules.specs.Policies.{maxPolicy}
 use Rattle.rules.specs.Refusals.{procsFault, policyFault, tableFault, tasksFault, endFault, traceFault, lastBefore, laterThan, inOrder}
-use Rattle.rules.specs.Refusals.{apart, releasesFault, roomFault, slotFault, caseTests, caseFault, countsTests, countsFault, replayFault}
-use Rattle.rules.specs.Refusals.{runningFault, Accepted}
+use Rattle.rules.specs.Refusals.{apart, releasesFault, absencesFault, roomFault, slotFault, caseTests, caseFault, countsTests, countsFault}
+use Rattle.rules.specs.Refusals.{replayFault, runningFault, Accepted}
 use Rattle.rules.specs.Limits.{maxProcs, maxTasks, maxEnd, maxReleases, taskWidth, releaseWidth, recordWidth}
 use Rattle.lists.specs.Tests.{and-left, or-cases}
 use Rattle.legal.specs.Firsts.{row-clear}
 use Rattle.legal.specs.Passing.{Procs, Sound, sound-table, procs-clear, policy-clear, table-clear, tasks-clear, end-clear}
-use Rattle.legal.specs.Passing.{trace-clear, Released, releases-clear, room-clear, slot-clear}
+use Rattle.legal.specs.Passing.{trace-clear, Released, releases-clear, Appears, absences-clear, room-clear, slot-clear}
 pub use Rattle.legal.specs.Firsts.{unless-clear, next-clear}
 pub use Rattle.legal.specs.Passing.{Good}
 
@@ -85,6 +85,7 @@ pub record Legal (c : Case) : Type 0 where
   pub in-order : (j k : ℕ) → j ≤ k → k < releaseCount (c .trace) → timeOf (c .trace) j ≤ timeOf (c .trace) k
   pub separate : (j k : ℕ) → j < k → k < releaseCount (c .trace) → nameOf (c .trace) j ≡ nameOf (c .trace) k
       → timeOf (c .trace) j + period (c .table) (nameOf (c .trace) k - 1) ≤ timeOf (c .trace) k
+  pub appear : (i : ℕ) → i < taskCount (c .table) → Appears (c .trace) i
 
 -- an accepted case passes each test of its row
 pub record Passes (c : Case) : Type 0 where
@@ -95,6 +96,7 @@ pub record Passes (c : Case) : Type 0 where
   pub by-end : endFault (c .end) .number ≡ 0
   pub by-trace : traceFault (c .trace) .number ≡ 0
   pub by-releases : releasesFault (c .table) (c .end) (c .trace) .number ≡ 0
+  pub by-absences : absencesFault (c .table) (c .trace) .number ≡ 0
 
 pub case-passes : (c : Case) → Accepted c → Passes c
 unfolding Accepted caseFault
@@ -108,6 +110,7 @@ case-passes c ok =
       by-end = w .1 .1 .1 .1 .0;
       by-trace = w .1 .1 .1 .1 .1 .0;
       by-releases = w .1 .1 .1 .1 .1 .1 .0;
+      by-absences = w .1 .1 .1 .1 .1 .1 .1 .0;
     }
 
 pub legal : (c : Case) → Accepted c → Legal c
@@ -135,6 +138,7 @@ legal c ok =
       before-end = λ j h. r j h .soon;
       in-order = sorted (c .trace) n o;
       separate = λ j i h l q. apart-le _ _ _ _ (r i l .since) (last-late (c .trace) n o i j (nameOf (c .trace) i) h (omega arith) q);
+      appear = absences-clear (c .table) (c .trace) (p .by-absences);
     }
 
 -- the processors of an accepted case, and its table

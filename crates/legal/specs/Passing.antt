@@ -1,20 +1,21 @@
 -- What it means to pass each test on numbers (rules, Refusals). Each test is opened here and in the proof of the function that makes it,
 -- and nowhere else: Legal, the proofs of the checks and the theorems cite these laws.
-use mathlib.Core.Path.{_≡_}
+use mathlib.Core.Path.{_≡_, refl}
 use mathlib.Core.Bool.{true, _&&_}
 use mathlib.Core.List.{List}
 use Prim.Native.Nat.{ℕ, suc, _*_, _-_, _%_, _≤_, _<_}
 use native.Mathlib.Omega.{arith}
 use lib.ListN.{length}
 use lib.Dec.{eqb, ltb, leb}
-use borrow.Author.Tests.{eqb-true, leb-true, ltb-true, le-leb}
+use borrow.Author.Tests.{eqb-true, leb-true, ltb-true, le-leb, eq-eqb, ne-eqb}
 use Rattle.rules.specs.Limits.{maxProcs, maxTasks, maxPeriod, maxEnd, maxReleases, taskWidth, releaseWidth}
 use Rattle.rules.specs.Case.{taskCount, period, execution, deadline, releaseCount, timeOf, nameOf}
 use Rattle.rules.specs.Policies.{maxPolicy}
 use Rattle.rules.specs.Refusals.{noFault, procsFault, policyFault, tableFault, taskStands, taskFault, tasksFault, endFault}
-use Rattle.rules.specs.Refusals.{traceFault, named, lastBefore, inOrder, apart, releaseTests, releaseFault, releasesFault, roomFault}
-use Rattle.rules.specs.Refusals.{slotFault}
+use Rattle.rules.specs.Refusals.{traceFault, named, lastBefore, inOrder, apart, releaseTests, releaseFault, releasesFault, releasesOf}
+use Rattle.rules.specs.Refusals.{faultOf, absentFault, absencesFault, roomFault, slotFault}
 use Rattle.lists.specs.Tests.{and-left, and-right}
+use Rattle.lists.specs.Sums.{count-none, count-there, count-some}
 use Rattle.legal.specs.Firsts.{unless-clear, unless-none, row-clear, row-none, firstOf-clear}
 
 -- ---- 4: processors
@@ -150,6 +151,40 @@ module _ (ts : List ℕ) (e : ℕ) (rs : List ℕ) (j : ℕ) where
 pub releases-clear : (ts : List ℕ) (e : ℕ) (rs : List ℕ) → releasesFault ts e rs .number ≡ 0
     → (j : ℕ) → j < releaseCount rs → Released ts e rs j
 releases-clear ts e rs h j l = release-clear ts e rs j (firstOf-clear (releaseFault ts e rs) (releaseCount rs) h j l)
+
+-- ---- 16: each task has a release, both ways
+-- a release of the task at i
+pub record Appears (rs : List ℕ) (i : ℕ) : Type 0 where
+  pub release : ℕ
+  pub of-trace : release < releaseCount rs
+  pub of-task : nameOf rs release ≡ suc i
+
+module _ (rs : List ℕ) (i : ℕ) where
+  pub absent-clear : absentFault rs i .number ≡ 0 → Appears rs i
+  unfolding absentFault
+  absent-clear e =
+      let some = leb-true 1 (releasesOf rs i) (unless-clear _ 16 (suc i) (omega arith) e) in
+      let r = count-some (λ j. eqb (nameOf rs j) (suc i)) 0 (releaseCount rs) some in
+      record { release = r .0; of-trace = omega (arith, r .1 .1); of-task = eqb-true _ _ (r .1 .2) }
+
+  pub absent-none : Appears rs i → absentFault rs i ≡ noFault
+  unfolding absentFault
+  absent-none a =
+      let named-here = eq-eqb (nameOf rs (a .release)) (suc i) (a .of-task) in
+      let some = count-there (λ j. eqb (nameOf rs j) (suc i)) 0 (releaseCount rs) (a .release) (omega arith)
+      (omega (arith, a .of-trace)) named-here in
+      rw (le-leb 1 (releasesOf rs i) some)
+
+  -- a task that no release names
+  pub absent-found : (Appears rs i → ⊥) → absentFault rs i ≡ faultOf 16 (suc i)
+  unfolding absentFault
+  absent-found h =
+      let none = count-none (λ j. eqb (nameOf rs j) (suc i)) 0 (releaseCount rs) (λ j x y.
+      ne-eqb (nameOf rs j) (suc i) (λ q. h (record { release = j; of-trace = omega arith; of-task = q }))) in
+      rw none refl
+
+pub absences-clear : (ts rs : List ℕ) → absencesFault ts rs .number ≡ 0 → (i : ℕ) → i < taskCount ts → Appears rs i
+absences-clear ts rs e i h = absent-clear rs i (firstOf-clear (absentFault rs) (taskCount ts) e i h)
 
 -- ---- 13: the room, both ways
 pub room-clear : (need room : ℕ) → roomFault need room .number ≡ 0 → need ≤ room

@@ -107,6 +107,7 @@ slot N          the tasks that run in slot N
 write           the case in its canonical text
 -q              leaves out the words on standard error for a refused case
 
+A case that breaks a rule, or has a task that is never released, prints refused, number, place.
 The exit status is 0; 2 for a refused case; 64 for words that ask for nothing that there is;
 1 where the case could not be read, the answer not be written, or the program not be built.
 ",

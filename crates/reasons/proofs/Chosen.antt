@@ -50,7 +50,10 @@ reason-short n p =
                           simp length-append (omega (arith, at-most-ten p)),
                           (
                             simp length-append (omega (arith, at-most-ten p)),
-                            (omega arith, (omega arith, (omega arith, (omega arith, tt)))),
+                            (
+                              omega arith,
+                              (omega arith, (omega arith, (omega arith, (simp length-append (omega (arith, at-most-ten p)), tt)))),
+                            ),
                           ),
                         ),
                       ),
@@ -77,13 +80,16 @@ pub chosen : {n : ℕ} {old new : List ℕ} {end : ℕ} (p k : ℕ) → n ≡ k
 unfolding reasonOf
 chosen p k e l = rw e (said k p refl l)
 
--- a number with no words of its own
-beyond : (n p : ℕ) → Outside 15 n → plainReason n p ≡ reasonOf n p
+-- the last number with words of its own, and a number with none
+abbrev pub lastWorded : ℕ
+lastWorded = 16
+
+beyond : (n p : ℕ) → Outside lastWorded n → plainReason n p ≡ reasonOf n p
 unfolding reasonOf
 beyond zero p o = refl
 beyond (suc n) p o = rw (List·getD-eq-default (plainReason (suc n) p ∷ reasons p) (plainReason (suc n) p)
-    (above 15 (suc n) (omega arith) o))
+    (above lastWorded (suc n) (omega arith) o))
 
-pub plainly : {old new : List ℕ} {end : ℕ} (n p : ℕ) → Outside 15 n → Laid 0 (plainReason n p) old new end
+pub plainly : {old new : List ℕ} {end : ℕ} (n p : ℕ) → Outside lastWorded n → Laid 0 (plainReason n p) old new end
     → Said (reasonOf n p) old new end
 plainly n p o l = said n p (beyond n p o) l

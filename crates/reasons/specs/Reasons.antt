@@ -1,5 +1,5 @@
 -- The words of a refusal, for a person to read: what is wrong and where, by the refusal's number and place (document 01, "Refusals by
--- number"). A new number is one line of `reasons`, and one arm of `put_reason`.
+-- number", and request P1, which adds 16). A new number is one line of `reasons`, and one arm of `put_reason`.
 use Prim.Native.Nat.{ℕ, _+_, _/_, _%_, _≤_}
 use Prim.Native.Char.{code}
 use Prim.Native.String.{String}
@@ -48,7 +48,8 @@ reasons p =
     words "releases: over 2,000, or not two numbers each" ∷
     words "room: too short" ∷
     words "policy: not 0 or 1" ∷
-    words "slot: not before the end" ∷ []
+    words "slot: not before the end" ∷
+    placed "task " p ": is never released, so no verdict covers it" ∷ []
 
 unfoldable pub reasonOf : ℕ → ℕ → List ℕ
 reasonOf n p = getD (plainReason n p ∷ reasons p) n (plainReason n p)

@@ -63,6 +63,12 @@ pub fn put_reason(out: &mut [u8], number: u32, place: u32) -> usize
         13 => put_bytes(out, 0, b"room: too short"),
         14 => put_bytes(out, 0, b"policy: not 0 or 1"),
         15 => put_bytes(out, 0, b"slot: not before the end"),
+        16 => put_placed(
+            out,
+            b"task ",
+            place,
+            b": is never released, so no verdict covers it",
+        ),
         _ => put_plain(out, number, place),
     }
 }

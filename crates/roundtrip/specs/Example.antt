@@ -3,10 +3,10 @@
 use mathlib.Core.Path.{_≡_, refl}
 use mathlib.Core.List.{List, [], _∷_, _++_}
 use Prim.Native.Nat.{ℕ}
-use Rattle.rules.specs.Words.{tab}
+use Rattle.rules.specs.Words.{sum, tab}
 use Rattle.rules.specs.Case.{caseOf}
 use Rattle.rules.specs.Refusals.{noFault, orNext, firstOf, procsFault, policyFault, tableFault, taskFault, endFault, traceFault, inOrder}
-use Rattle.rules.specs.Refusals.{lastBefore, releaseFault, caseFault}
+use Rattle.rules.specs.Refusals.{lastBefore, releaseFault, absentFault, caseFault}
 use Rattle.rules.specs.Text.{same, upTo, past, has, lineOf, afterLine, fieldOf, afterField, allDigits, noLeadingZero, isNumber, worth}
 use Rattle.rules.specs.Text.{numberIn, digitsIn, digitsOf, procsWord, policyWord, taskWord, endWord, releaseWord}
 use Rattle.rules.specs.Policies.{edf, edfWord, policyName}
@@ -39,7 +39,7 @@ unfolding same upTo past has lineOf afterLine fieldOf afterField allDigits noLea
     threeNumbers wordKind
     fieldsSay lineSays linesIn linesOf mayFollow mayStop linesFault withLine withLines caseWithDefault caseIn lengthFault textFault orNext
     firstOf procsFault policyFault
-    tableFault taskFault endFault traceFault inOrder lastBefore releaseFault caseFault
+    tableFault taskFault endFault traceFault inOrder lastBefore releaseFault sum absentFault caseFault
 short-accepted = refl
 
 pub short-case : caseIn short-text ≡ caseOf 1 edf (5 ∷ 1 ∷ 5 ∷ []) 5 (0 ∷ 1 ∷ [])

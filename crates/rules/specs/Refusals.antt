@@ -1,12 +1,13 @@
--- The refusals on numbers (document 01, "Refusals by number"): each a test with its number and place, and for each public call the
--- list of tests that it makes, of which the first that fails is the answer. The refusals of a text, 1 to 3, are in Reader.
+-- The refusals on numbers (document 01, "Refusals by number", and request P1, which adds 16): each a test with its number and place, and
+-- for each public call the list of tests that it makes, of which the first that fails is the answer. The refusals of a text, 1 to 3, are
+-- in Reader.
 use Prim.Native.Nat.{ℕ, zero, suc, _+_, _*_, _-_, _%_}
 use mathlib.Core.Path.{_≡_}
 use mathlib.Core.Bool.{Bool, true, false, _&&_, _||_}
 use mathlib.Core.List.{List, [], _∷_}
 use lib.Dec.{eqb, ltb, leb}
 use lib.ListN.{length}
-use Rattle.rules.specs.Words.{pick}
+use Rattle.rules.specs.Words.{pick, countIn}
 use Rattle.rules.specs.Limits.{maxProcs, maxTasks, maxPeriod, maxEnd, maxReleases, taskWidth, releaseWidth, recordWidth}
 use Rattle.rules.specs.Case.{Case, taskCount, period, execution, deadline, releaseCount, timeOf, nameOf}
 use Rattle.rules.specs.Policies.{maxPolicy}
@@ -104,6 +105,17 @@ releaseFault ts e rs j = first (releaseTests ts e rs j)
 abbrev pub releasesFault : List ℕ → ℕ → List ℕ → Fault
 releasesFault ts e rs = firstOf (releaseFault ts e rs) (releaseCount rs)
 
+-- ---- 16: a task without a release; place the lowest such task
+-- how many releases the task at i has
+abbrev pub releasesOf : List ℕ → ℕ → ℕ
+releasesOf rs i = countIn (λ j. eqb (nameOf rs j) (suc i)) 0 (releaseCount rs)
+
+unfoldable pub absentFault : List ℕ → ℕ → Fault
+absentFault rs i = unless (leb 1 (releasesOf rs i)) 16 (suc i)
+
+abbrev pub absencesFault : List ℕ → List ℕ → Fault
+absencesFault ts rs = firstOf (absentFault rs) (taskCount ts)
+
 -- ---- 13: lent room too short
 unfoldable pub roomFault : ℕ → ℕ → Fault
 roomFault need room = unless (leb need room) 13 0
@@ -113,7 +125,7 @@ unfoldable pub slotFault : ℕ → ℕ → Fault
 slotFault e s = unless (ltb s e) 15 0
 
 -- ---- which tests a call makes, in their order
--- 4, 14, 5, 6, 7, 12, then release by release 8, 11, 9, 10: what every call on a whole case makes
+-- 4, 14, 5, 6, 7, 12, then release by release 8, 11, 9, 10, then 16: what every call on a whole case makes
 abbrev pub caseTests : Case → List Fault
 caseTests c =
     procsFault (c .procs) ∷
@@ -122,7 +134,8 @@ caseTests c =
     tasksFault (c .table) ∷
     endFault (c .end) ∷
     traceFault (c .trace) ∷
-    releasesFault (c .table) (c .end) (c .trace) ∷ []
+    releasesFault (c .table) (c .end) (c .trace) ∷
+    absencesFault (c .table) (c .trace) ∷ []
 
 unfoldable pub caseFault : Case → Fault
 caseFault c = first (caseTests c)

@@ -2,7 +2,7 @@
 -- `demoted-later`, tells an error of document 01's "Errors that look right" that no entry of "Worked by hand" tells.
 use mathlib.Core.Path.{_≡_, refl, sym, _∙_}
 use mathlib.Core.Bool.{false, false≢true}
-use mathlib.Core.List.{[], _∷_}
+use mathlib.Core.List.{List, [], _∷_}
 use Prim.Native.Nat.{ℕ, zero, suc}
 use native.Mathlib.Omega.{arith}
 use lib.Dec.{ltb}
@@ -13,7 +13,7 @@ use Rattle.rules.specs.Policies.{edf, edfCf}
 use Rattle.rules.specs.Counts.{availability, availabilities, count, freeCount}
 use Rattle.rules.specs.Refusals.{orNext, firstOf, procsFault, policyFault, tableFault, taskFault, endFault, traceFault, inOrder}
 use Rattle.rules.specs.Refusals.{lastBefore}
-use Rattle.rules.specs.Refusals.{releaseFault, caseFault, Accepted}
+use Rattle.rules.specs.Refusals.{faultOf, releaseFault, absentFault, caseFault, Accepted}
 use Rattle.rules.specs.Slot.{present, judged, joined, demoted, jobsNow, contentionFree, lowered, opened, jobBefore, rank, chosen, worked}
 use Rattle.rules.specs.Slot.{after, ran, finished, demotedNow}
 use Rattle.rules.specs.Replay.{setupIn, releasedIn, releasedAt, stateFrom, stateAt, ranAt, finishedAt, demotedAt, contentionFreeAt}
@@ -37,22 +37,38 @@ tight policy = caseOf 1 policy (4 ∷ 1 ∷ 4 ∷ 4 ∷ 3 ∷ 3 ∷ []) 4 (0 ∷
 abbrev pub crowded : Case
 crowded = caseOf 2 edfCf (10 ∷ 2 ∷ 6 ∷ 10 ∷ 2 ∷ 3 ∷ 10 ∷ 3 ∷ 7 ∷ []) 10 (0 ∷ 1 ∷ 0 ∷ 2 ∷ 0 ∷ 3 ∷ [])
 
--- the cases are accepted: the tests are computed
-accepted : Accepted (caseA edfCf 10) × Accepted (caseA edfCf 1) × Accepted (tight edfCf) × Accepted crowded
+-- set A with other releases
+abbrev pub releasedA : List ℕ → Case
+releasedA trace = caseOf 2 edfCf (caseA edfCf 10 .table) 10 trace
+
+-- the lowest task without a release is the place: where one has none, where two, where all three; a release at fault comes before it
+abbrev pub LowestOfA : Type 0
+LowestOfA =
+    (caseFault (releasedA (0 ∷ 1 ∷ 0 ∷ 2 ∷ [])) ≡ faultOf 16 3) ×
+    (caseFault (releasedA (0 ∷ 1 ∷ [])) ≡ faultOf 16 2) ×
+    (caseFault (releasedA []) ≡ faultOf 16 1) ×
+    (caseFault (releasedA (0 ∷ 1 ∷ 0 ∷ 1 ∷ [])) ≡ faultOf 9 2)
+
+-- the cases are accepted, and set A is refused where it lacks releases: the tests are computed
+tested : (Accepted (caseA edfCf 10) × Accepted (caseA edfCf 1) × Accepted (tight edfCf) × Accepted crowded) × LowestOfA
 unfolding Accepted caseFault orNext firstOf procsFault policyFault tableFault taskFault endFault traceFault inOrder lastBefore releaseFault
-accepted = (refl, refl, refl, refl)
+    sum absentFault
+tested = ((refl, refl, refl, refl), (refl, refl, refl, refl))
 
 pub accepted-A : Accepted (caseA edfCf 10)
-accepted-A = accepted .0
+accepted-A = tested .0 .0
 
 pub accepted-A-cut : Accepted (caseA edfCf 1)
-accepted-A-cut = accepted .1
+accepted-A-cut = tested .0 .1
 
 pub accepted-tight : Accepted (tight edfCf)
-accepted-tight = accepted .2
+accepted-tight = tested .0 .2
 
 pub accepted-crowded : Accepted crowded
-accepted-crowded = accepted .3
+accepted-crowded = tested .0 .3
+
+pub lowest-of-A : LowestOfA
+lowest-of-A = tested .1
 
 -- set A: task 3 is missed under EDF and met under EDF-CF; task 1 is demoted at 0 and met at 2, where EDF meets it at 1
 pub set-A : (recordBy (caseA edf 10) 10 2 ≡ recordOf 2 0 0) × (recordBy (caseA edfCf 10) 10 2 ≡ recordOf 1 5 0)

@@ -9,6 +9,7 @@ pub mod Story
 pub mod Demoted
 pub mod Dominance
 pub mod Accept
+pub mod Appear
 pub mod Verdicts
 pub mod Demand3
 pub mod Instances

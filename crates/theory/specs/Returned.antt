@@ -4,11 +4,12 @@ use mathlib.Core.Path.{_≡_, sym, _∙_}
 use mathlib.Core.Bool.{true}
 use mathlib.Core.List.{List, _++_}
 use Prim.Native.Nat.{ℕ, _+_, _*_, _≤_, _<_}
+use native.Mathlib.Omega.{arith}
 use lib.ListN.{length, getD, drop}
 use Rattle.rules.specs.declared.Replayed.{Replayed}
 use Rattle.rules.specs.Words.{countIn}
 use Rattle.rules.specs.Limits.{recordWidth}
-use Rattle.rules.specs.Case.{Case, under, deadline, releaseCount, timeOf}
+use Rattle.rules.specs.Case.{Case, under, taskCount, deadline, releaseCount, timeOf}
 use Rattle.rules.specs.Policies.{edf, demoting}
 use Rattle.rules.specs.Slot.{freeCountIn}
 use Rattle.rules.specs.Refusals.{caseFault, replayFault, Accepted}
@@ -19,6 +20,7 @@ use Rattle.legal.specs.Legal.{next-clear}
 use Rattle.bridge.specs.Records.{taskAt}
 use Rattle.bridge.specs.Notes.{held-verdict, held-finish, held-demotion}
 use Rattle.legal.specs.Settled.{result-clear, kept-new}
+use Rattle.theory.specs.Appear.{accepted-each-appears}
 use Rattle.theory.specs.Demand3.{dueAt, Judged, free-slots, demoted-meets, edf-met-stays-met}
 
 -- the three numbers that a room holds for release j
@@ -61,6 +63,13 @@ module _ (c : Case) (later : List ℕ) (w : Returned c later) where
 
     pub demotion-returned : demotionIn later j ≡ recordBy c (c .end) j .demotion
     demotion-returned = rw holds (held-demotion (recordBy c (c .end)) (releaseCount (c .trace)) _ j h)
+
+-- each task of the table has a release, and the room holds the verdict of its job (request P1)
+pub returned-every-task : (c : Case) (later : List ℕ) → Returned c later → (i : ℕ) → i < taskCount (c .table)
+    → (j : ℕ) × ((j < releaseCount (c .trace)) × (taskAt c j ≡ i) × (verdictIn later j ≡ recordBy c (c .end) j .verdict))
+returned-every-task c later w i h =
+    let a = accepted-each-appears c (accepted c later w) .1 i h in
+    (a .release, (a .of-trace, omega (arith, a .of-task), verdict-returned c later w (a .release) (a .of-trace)))
 
 -- 1. at least the free count of the slots from release to deadline are contention-free
 pub returned-free-slots : (c : Case) (later : List ℕ) → Returned c later → (j : ℕ) → Judged c j

@@ -45,10 +45,11 @@
  *   13   a lent room is too short                                       0
  *   14   policy not 0 or 1                                              0
  *   15   the named slot is not below end                                0
+ *   16   a task without a release                                       the lowest such task
  *
  *   Lines, tasks and releases count from 1. Of several, the first in this order is given: 4, 14, 5, 6, 7, 12, then release by release
- *   8, 11, 9, 10, then 13, then 15. The reader tests its rooms (13) first, then 1, then the smallest line at fault (2 before 3 on one
- *   line), then the order above.
+ *   8, 11, 9, 10, then 16, then 13, then 15. The reader tests its rooms (13) first, then 1, then the smallest line at fault (2 before 3
+ *   on one line), then the order above. 16 is made by every call that takes a trace, so with no release, or end 0, each of them refuses.
  */
 #ifndef THRUMCOMB_H
 #define THRUMCOMB_H
@@ -80,7 +81,7 @@ uint32_t thrumcomb_counts(
     uint32_t *place);
 
 /*
- * The replay of a case. Refusals 4 to 14.
+ * The replay of a case. Refusals 4 to 14, 16.
  * out: three numbers a release, in trace order: the verdict (1 met, 2 missed, 3 open); the finish time, or 0 where there is none;
  * the demotion time + 1, or 0 where never demoted.
  * results[0], [1], [2]: how many are met, missed, open.
@@ -95,7 +96,7 @@ uint32_t thrumcomb_replay(
     uint32_t *place);
 
 /*
- * The running set of one named slot. Refusals 4 to 12, 14, 15.
+ * The running set of one named slot. Refusals 4 to 12, 14, 15, 16.
  * results[0]: a number below 2^32 with bit (task - 1) set for each task that runs.
  */
 uint32_t thrumcomb_running_set(
@@ -108,7 +109,7 @@ uint32_t thrumcomb_running_set(
     uint32_t *place);
 
 /*
- * The reader of a case text. Refusals 1 to 13.
+ * The reader of a case text. Refusals 1 to 13, 16.
  * tasks: the task numbers; the room is at least THRUMCOMB_TASK_ROOM numbers long.
  * releases: the release numbers; the room is at least THRUMCOMB_RELEASE_ROOM numbers long.
  * results[0] to [4]: processors, policy, end, how many tasks (of three numbers each), how many releases (of two numbers each).
@@ -121,7 +122,7 @@ uint32_t thrumcomb_read(
     uint32_t *place);
 
 /*
- * The writer of a case text. Refusals 4 to 14.
+ * The writer of a case text. Refusals 4 to 14, 16.
  * out: the text, with no byte after it; 13 where the exact text does not fit.
  * results[0]: the text's length in bytes.
  */

@@ -1,7 +1,7 @@
-//! Thrumcomb for Rust: the five public calls of libthrumcomb.a (made by `rt staticlib thrumcomb`, for x86-64 Linux), declared, and for each a
-//! safe function. thrumcomb.h beside this file says what is lent, what is returned, and what each refusal means.
+//! Thrumcomb for Rust: the five public calls of libthrumcomb.a (made by `rt staticlib thrumcomb`, for x86-64 Linux), declared, and for
+//! each a safe function. thrumcomb.h beside this file says what is lent, what is returned, and what each refusal means.
 
-/// A refusal: its number, 1 to 15, and its place. Every lent number and byte keeps the content it had.
+/// A refusal: its number, 1 to 16, and its place. Every lent number and byte keeps the content it had.
 #[derive(Clone, Copy, Debug, PartialEq, Eq)]
 pub struct Refusal {
     pub number: u32,

@@ -12,13 +12,13 @@ use Rattle.checks.proofs.releases_fault.Statement.{statement}
 use Rattle.checks.proofs.releases_fault.Tie as tie
 
 abbrev Inv-loop : tie.InvT-loop
-Inv-loop table end trace releases last₀ j₀ last j = (j ≤ releases) × Checked table end trace last j
+Inv-loop table end trace last₀ releases j₀ last j = (j ≤ releases) × Checked table end trace last j
 
 abbrev μ-loop : tie.MeasureT-loop
-μ-loop table end trace releases last₀ j₀ last j = releases - j
+μ-loop table end trace last₀ releases j₀ last j = releases - j
 
 abbrev start : tie.Else1 Inv-loop μ-loop → tie.Start Inv-loop μ-loop
-start c = c .before .before .before .before .before .before .before .before
+start c = c .before .before .before .before .before .before .before .before .before
 
 -- a release with no fault names one of few tasks at a time that is not too late
 stands : (c : tie.Else1 Inv-loop μ-loop) → (1 ≤ nameOf (start c .args .trace .now) (c .before .before .before .before .loop .j))
@@ -37,17 +37,17 @@ loop-holds c = (omega arith, checked-none _ _ _)
 
 release-fault-requires : tie.Need-release-fault-requires Inv-loop μ-loop
 release-fault-requires c κs =
-    let q = c .before .before .before .before .before .before .pre in
+    let q = c .before .before .before .before .before .before .before .pre in
     let v = c .before .before .loop .inv .1 in
     (q .0, omega (arith, c .before .before .before .release-count .ensures), q .1, v .at-last, v .early)
 
 returns : tie.Need-returns Inv-loop μ-loop
 returns c =
-    let start-here = c .before .before .before .before .before .before .before .before in
+    let start-here = c .before .before .before .before .before .before .before .before .before in
     let looped = c .before .before .before .before .loop in
     let release-count = c .before .before .before .before .before .release-count in
     let l : looped .j < releaseCount (start-here .args .trace .now) = omega (arith, release-count .ensures) in
-    checked-hit _ _ _ _ _ (c .before .release-fault .ensures) _ (looped .inv .1) l (c .if1 .taken)
+    checked-hit _ _ _ _ _ (c .before .release-fault .ensures) _ (looped .inv .1) _ l (c .if1 .taken)
 
 time-of-requires : tie.Need-time-of-requires Inv-loop μ-loop
 time-of-requires c κs = search needs
@@ -67,8 +67,8 @@ add-last c = omega (arith, stands (c .before .before), c .before .time-of .ensur
 mul-last : tie.Need-mul-last Inv-loop μ-loop
 mul-last c = search needs
 
-array-write-last : tie.Need-array-write-last Inv-loop μ-loop
-array-write-last c = omega (arith, stands (c .before .before), c .name-of .ensures)
+element-write-last : tie.Need-element-write-last Inv-loop μ-loop
+element-write-last c = omega (arith, stands (c .before .before), c .name-of .ensures)
 
 add-j : tie.Need-add-j Inv-loop μ-loop
 add-j c = search needs
@@ -90,7 +90,7 @@ fault-requires c κs = search needs
 
 returns-2 : tie.Need-returns-2 Inv-loop μ-loop
 returns-2 c =
-    let start-here = c .before .before .before .before .before .before in
+    let start-here = c .before .before .before .before .before .before .before in
     let release-count = c .before .before .before .release-count in
     let e : c .before .before .loop .j ≡ releaseCount (start-here .args .trace .now) = omega (arith, release-count .ensures) in
     checked-all _ _ _ _ _ (c .before .before .loop .inv .1) e _ (c .fault .ensures)
@@ -111,7 +111,7 @@ releases-fault-spec =
     sub-i
     add-last
     mul-last
-    array-write-last
+    element-write-last
     add-j
     loop-less
     loop-again

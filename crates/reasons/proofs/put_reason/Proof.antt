@@ -116,6 +116,15 @@ slice-aggregate-put-bytes-8 c = search needs
 put-bytes-requires-8 : tie.Need-put-bytes-requires-8
 put-bytes-requires-8 c κs = search needs
 
+slice-aggregate-put-placed-15 : tie.Need-slice-aggregate-put-placed-15
+slice-aggregate-put-placed-15 c = search needs
+
+slice-aggregate-put-placed-16 : tie.Need-slice-aggregate-put-placed-16
+slice-aggregate-put-placed-16 c = search needs
+
+put-placed-requires-8 : tie.Need-put-placed-requires-8
+put-placed-requires-8 c κs = search needs
+
 put-plain-requires : tie.Need-put-plain-requires
 put-plain-requires c κs = search needs
 
@@ -228,7 +237,14 @@ same-length-16 : tie.Need-same-length-16
 same-length-16 c = search needs
 
 returns-16 : tie.Need-returns-16
-returns-16 c = plainly _ _ (c .before .before .before .before .match .rest) (c .before .before .put-plain .ensures)
+unfolding words signBytes
+returns-16 c = chosen _ 16 (search needs) (c .before .before .put-placed8 .ensures)
+
+same-length-17 : tie.Need-same-length-17
+same-length-17 c = search needs
+
+returns-17 : tie.Need-returns-17
+returns-17 c = plainly _ _ (c .before .before .before .before .match .rest) (c .before .before .put-plain .ensures)
 
 pub put-reason-spec : {M : Type 1} → statement M
 put-reason-spec =
@@ -271,6 +287,9 @@ put-reason-spec =
     put-bytes-requires-7
     slice-aggregate-put-bytes-8
     put-bytes-requires-8
+    slice-aggregate-put-placed-15
+    slice-aggregate-put-placed-16
+    put-placed-requires-8
     put-plain-requires
     same-length
     returns
@@ -303,4 +322,6 @@ put-reason-spec =
     same-length-15
     returns-15
     same-length-16
-    returns-16)
+    returns-16
+    same-length-17
+    returns-17)
