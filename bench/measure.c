@@ -1,8 +1,8 @@
 /*
  * Measures the calls of libthrumcomb.a against the plain C of replay.c and text.c, in one process and by turns, so that both meet the same
  * machine. Standard input: `repeat L table.. K trace.. procs policy end` and then the bytes of a case text (up to the end).
- * Prints, in the processor time that clock() counts, the C time, Thrumcomb's time and their ratio for the replay, the reader and the
- * writer, whether the answers agree, and the stack that each call of Thrumcomb used.
+ * Prints, in the processor time that clock() counts, the C time, Thrumcomb's time and their ratio for the replay, its checks alone, the
+ * reader and the writer, whether the answers agree, and the stack that each call of Thrumcomb used.
  */
 
 #include <stddef.h>
@@ -19,6 +19,7 @@ int replay(uint32_t procs, uint32_t policy, const uint32_t *table, size_t table_
            uint32_t *room, size_t room_len, uint32_t totals[3], uint32_t *place);
 
 #define PAINTED 200000
+#define CHECKS 1000
 
 static uint32_t table[96], trace[4000], room_c[6000], room_t[6000], tasks[96], releases[4000];
 static uint8_t text[70000], out_c[70000], out_t[70000];
@@ -107,6 +108,31 @@ static void measure_replay(uint32_t repeat)
     line("replay", c, t, compared(same));
 }
 
+/*
+ * The checks alone: a room of no numbers is refused as 13 once all else has been tested. They take microseconds, so CHECKS of them are
+ * timed together.
+ */
+static void measure_checks(uint32_t repeat)
+{
+    uint32_t totals[3], place_c = 0, place_t = 0;
+    size_t results[3];
+    long c = 0, t = 0;
+    int number_c = 0, number_t = 0;
+    uint32_t k, i;
+
+    for (k = 0; k < repeat; k++) {
+        long a = clock();
+        for (i = 0; i < CHECKS; i++)
+            number_c = replay(procs, policy, table, table_len, end, trace, trace_len, room_c, 0, totals, &place_c);
+        c += clock() - a;
+        a = clock();
+        for (i = 0; i < CHECKS; i++)
+            number_t = (int)thrumcomb_replay(procs, policy, table, table_len, end, trace, trace_len, room_t, 0, results, &place_t);
+        t += clock() - a;
+    }
+    line("checks", c, t, compared(number_c == 13 && number_t == 13 && place_c == place_t));
+}
+
 static void measure_text(uint32_t repeat)
 {
     size_t results[5] = {0, 0, 0, 0, 0}, length[1] = {0}, written = 0;
@@ -168,6 +194,7 @@ int main(void)
 
     read_input();
     measure_replay(repeat);
+    measure_checks(repeat);
     measure_text(repeat * 20);
     measure_stack();
     return 0;

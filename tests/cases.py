@@ -8,9 +8,9 @@ The same seed gives the same inputs.  Three streams are offered:
                              at where that is known
 
 An aim is the pair (number, place): (0, 0) for a call that is to be accepted,
-else the refusal that document 01's order puts first.  Where a fault decides
-the answer, all that comes later in that order is often spoiled as well, so
-that an order that differs from document 01's shows itself.
+else the refusal that comes first in document 01's order, with 16 between 10
+and 13.  Where a fault decides the answer, all that comes later in that order
+is often spoiled as well, so that another order shows itself.
 """
 
 import random
@@ -31,7 +31,7 @@ Text = namedtuple("Text", "kind data task_room release_room number place")
 
 
 # ---------------------------------------------------------------------------
-# Legal cases
+# Legal cases: each task has a release
 
 # size: (most processors, most tasks, longest period, latest end)
 SIZES = {
@@ -111,8 +111,40 @@ def some_table(rng, procs, tasks, longest, spread):
     return table
 
 
+def some_times(rng, T, first, end, slack, keep, most):
+    """Legal times of one task, from the first on; not all are left out."""
+    times = []
+    time = first
+    while time < end and len(times) < most:
+        times.append(time)
+        time += T + (rng.randint(0, slack) if rng.random() < 0.5 else 0)
+    return [time for time in times if rng.random() < keep] or [rng.choice(times)]
+
+
+def cut(rng, releases, most):
+    """The releases, or as many of them as are wanted, one of each task at least.
+
+    Dropping releases keeps the rest legal as long as each task appears.
+    """
+    if len(releases) <= most:
+        return releases
+    wanted = list(releases)
+    if rng.random() < 0.5:
+        rng.shuffle(wanted)
+    one_each = {}
+    for release in wanted:
+        one_each.setdefault(release[1], release)
+    kept = set(one_each.values())
+    others = [release for release in wanted if release not in kept]
+    return sorted([*kept, *others[:most - len(kept)]])
+
+
 def some_releases(rng, table, end, most):
-    """Legal releases in order, as (time, task) pairs."""
+    """Legal releases of all tasks in order, as (time, task) pairs.
+
+    The end is 1 or more, so that each task can appear, and `most` is no less
+    than there are tasks.
+    """
     tasks = replay.tasks_of(table)
     together = rng.random() < 0.6
     start = rng.choice([0, 0, 0, rng.randint(0, end // 2)])
@@ -120,20 +152,25 @@ def some_releases(rng, table, end, most):
     keep = rng.choice([1.0, 1.0, 0.9, 0.5])
     found = []
     for number, task in enumerate(tasks, start=1):
-        time = start if together else start + rng.randint(0, task.T)
-        while time < end and len(found) < 40 * most:
-            if rng.random() < keep:
-                found.append((time, number))
-            time += task.T + (rng.randint(0, slack) if rng.random() < 0.5 else 0)
-    found.sort()
-    # Dropping releases keeps the rest legal.
-    if len(found) > most:
-        if rng.random() < 0.5:
-            found = found[:most]
-        else:
-            kept = sorted(rng.sample(range(len(found)), most))
-            found = [found[i] for i in kept]
-    return found
+        latest = start if together else min(start + task.T, end - 1)
+        first = rng.randint(start, latest)
+        times = some_times(rng, task.T, first, end, slack, keep,
+                           max(1, 40 * most - len(found)))
+        found += [(time, number) for time in times]
+    return cut(rng, sorted(found), most)
+
+
+def end_at_a_deadline(rng, table, end, releases):
+    """Some job's deadline, or one slot to either side of it.
+
+    By then each task has appeared; the end stays where there is no such time.
+    """
+    first = {task: time for time, task in reversed(releases)}
+    shift = rng.choice([-1, 0, 0, 0, 1])
+    ends = [min(time + table[3 * task - 1] + shift, 100_000)
+            for time, task in releases]
+    late = [found for found in ends if found > max(first.values())]
+    return rng.choice(late or [end])
 
 
 def flat(pairs):
@@ -156,15 +193,12 @@ def legal_case(rng, size=None):
     procs = within(1, procs, 32)
     policy = rng.choice([0, 1, 1])
     table = some_table(rng, procs, tasks, longest, spread)
-    end = rng.choice([0, 1] + [latest] * 4 + [rng.randint(0, latest)] * 24)
-    most = rng.choice([0, 1] + [2_000] * 24 + [rng.randint(0, 2_000)] * 4)
+    end = rng.choice([1, 2] + [latest] * 4 + [rng.randint(1, latest)] * 24)
+    most = rng.choice([tasks, tasks + 1] + [2_000] * 24
+                      + [rng.randint(tasks, 2_000)] * 4)
     releases = some_releases(rng, table, end, most)
-
-    # Often the end is some job's deadline, or one slot to either side of it.
-    if releases and rng.random() < 0.5:
-        time, task = rng.choice(releases)
-        deadline = time + table[3 * task - 1]
-        end = within(0, deadline + rng.choice([-1, 0, 0, 0, 1]), 100_000)
+    if rng.random() < 0.5:
+        end = end_at_a_deadline(rng, table, end, releases)
         releases = [pair for pair in releases if pair[0] < end]
     return Case(procs, policy, table, end, flat(releases))
 
@@ -250,8 +284,10 @@ def some_bytes(rng, length):
 
 
 # ---------------------------------------------------------------------------
-# Faults in numbers.  Each function takes a legal case and returns the broken
-# case with the place of its fault; what comes later in the order may be wild.
+# Faults in numbers.  Each function takes a case and returns the broken case
+# with the place of its fault; what comes later in the order may be wild.  The
+# case is legal but for tasks without a release, which are a fault that comes
+# after all of these but its own.
 
 
 def spoil_later(rng, case, *fields):
@@ -329,9 +365,10 @@ def break_end(rng, case):
 
 
 def too_many_releases(rng):
-    """A case with nothing wrong but its 2,001 releases or more."""
+    """A case with 2,001 releases or more, all of its first task."""
     extra = rng.choice([1, 1, 1, 2, 9])
-    return Case(rng.randint(1, 32), rng.choice([0, 1]), [1, 1, 1],
+    return Case(rng.randint(1, 32), rng.choice([0, 1]),
+                [1, 1, 1] * rng.choice([1, 1, 2]),
                 rng.choice([2_000 + extra, 100_000]),
                 flat((time, 1) for time in range(2_000 + extra)))
 
@@ -379,8 +416,20 @@ def break_time(rng, case, most=MOST, wild_number=wild):
     return with_release(rng, case, place, [time, task], wild_number)
 
 
+def exchanged(case, place):
+    """The case with the release at the place and the one before exchanged."""
+    releases = replay.releases_of(case.trace)
+    releases[place - 2:place] = reversed(releases[place - 2:place])
+    return case._replace(trace=flat(releases))
+
+
 def break_order(rng, case, wild_number=wild):
     place = rng.randint(2, len(case.trace) // 2)
+    if rng.random() < 0.2:
+        # No release is lost, and the one refused may be its task's only one.
+        case = exchanged(case, place)
+        release = case.trace[2 * place - 2:2 * place]
+        return with_release(rng, case, place, release, wild_number)
     time, task = case.trace[2 * place - 4:2 * place - 2]
     tasks = len(case.table) // 3
     ways = [(time, task)]
@@ -412,6 +461,53 @@ def break_separation(rng, case, wild_number=wild):
     return with_release(rng, case, place, rng.choice(ways), wild_number)
 
 
+def releases_but_of(case, tasks):
+    """The releases of the case, as pairs, but those of the tasks."""
+    return [release for release in replay.releases_of(case.trace)
+            if release[1] not in tasks]
+
+
+def released_often(case, task):
+    """The case with as many releases of the task as can stand."""
+    others = releases_but_of(case, [task])
+    times = range(0, case.end, case.table[3 * task - 3])
+    often = [(time, task) for time in times[:2_000 - len(others)]]
+    return case._replace(trace=flat(sorted(others + often)))
+
+
+def with_most_tasks(rng, case):
+    """A case of 32 tasks, each of them released once."""
+    releases = [(rng.randrange(case.end), task) for task in range(1, 33)]
+    return case._replace(table=(case.table * 32)[:96],
+                         trace=flat(sorted(releases)))
+
+
+def some_tasks(rng, tasks):
+    """Numbers of tasks: one of them, the last ones, some or all."""
+    one = rng.choice([1, tasks, rng.randint(1, tasks)])
+    return rng.choice([[one], [one], [one],
+                       range(one, tasks + 1),
+                       rng.sample(range(1, tasks + 1), rng.randint(1, tasks)),
+                       range(1, tasks + 1)])
+
+
+def break_appearance(rng, case):
+    """Tasks without a release, of which the lowest is the place."""
+    if rng.random() < 0.3:
+        case = with_most_tasks(rng, case)
+    tasks = len(case.table) // 3
+    absent = some_tasks(rng, tasks)
+    case = case._replace(trace=flat(releases_but_of(case, absent)))
+    place = min(absent)
+    if not case.trace:
+        return case._replace(end=rng.choice([0, 0, case.end, 100_000])), place
+    # A release counts for its own task, not for the one beside it.
+    for beside in (place - 1, place + 1):
+        if 1 <= beside <= tasks and beside not in absent and rng.random() < 0.5:
+            case = released_often(case, beside)
+    return case, place
+
+
 CASE_BREAKERS = {
     4: break_procs,
     14: break_policy,
@@ -423,16 +519,36 @@ CASE_BREAKERS = {
     11: break_time,
     9: break_order,
     10: break_separation,
+    16: break_appearance,
 }
 
-# How many releases a legal case must have for a breaker to work on it.
-RELEASES_FOR = {8: 1, 11: 1, 9: 2, 10: 2, 13: 1}
+# How many releases a case must have for a breaker to work on it.
+RELEASES_FOR = {8: 1, 11: 1, 9: 2, 10: 2, 16: 1}
+
+
+def thinned(rng, case, least):
+    """The case, often with tasks that have no release, or one each.
+
+    Such a task is a fault that is tested late, and so is one whose only
+    release a breaker spoils.  As many releases as the least are left.
+    """
+    tasks = len(case.table) // 3
+    releases = replay.releases_of(case.trace)
+    kept = rng.choice([releases, releases, cut(rng, releases, tasks),
+                       releases_but_of(case, some_tasks(rng, tasks))])
+    return case._replace(trace=flat(kept)) if len(kept) >= least else case
+
+
+def case_to_break(rng, number, size=None):
+    """A case for the breaker of a number."""
+    least = RELEASES_FOR.get(number, 0)
+    case = case_with_releases(rng, least, size)
+    return case if number == 16 else thinned(rng, case, least)
 
 
 def broken_case(rng, number):
     while True:
-        case = case_with_releases(rng, RELEASES_FOR.get(number, 0))
-        broken = CASE_BREAKERS[number](rng, case)
+        broken = CASE_BREAKERS[number](rng, case_to_break(rng, number))
         if broken is not None:
             return broken
 
@@ -442,9 +558,9 @@ def broken_case(rng, number):
 
 AIMS = {
     "counts": [0, 4, 5, 6, 13],
-    "replay": [0, 4, 14, 5, 6, 7, 12, 8, 11, 9, 10, 13],
-    "running_set": [0, 4, 14, 5, 6, 7, 12, 8, 11, 9, 10, 15],
-    "write_case": [0, 4, 14, 5, 6, 7, 12, 8, 11, 9, 10, 13],
+    "replay": [0, 4, 14, 5, 6, 7, 12, 8, 11, 9, 10, 16, 13],
+    "running_set": [0, 4, 14, 5, 6, 7, 12, 8, 11, 9, 10, 16, 15],
+    "write_case": [0, 4, 14, 5, 6, 7, 12, 8, 11, 9, 10, 16, 13],
 }
 
 
@@ -463,6 +579,8 @@ def call_of(rng, name, case, number, place):
             slot = rng.choice([0, case.end - 1, rng.randrange(case.end)])
         elif number == 15:
             slot = rng.choice([case.end, case.end, case.end + 1, MOST])
+        elif number == 16:
+            slot = rng.choice([0, case.end, wild(rng)])
         else:
             slot = wild(rng)
         return Call(name, (*case, slot), number, place)
@@ -473,6 +591,9 @@ def call_of(rng, name, case, number, place):
     elif number == 13:
         needed = room_needed(name, case)
         length = rng.choice([needed - 1, needed - 1, 0, rng.randrange(needed)])
+    elif number == 16:
+        needed = room_needed(name, case)
+        length = rng.choice([0, max(0, needed - 1), needed, needed + 50])
     else:
         length = rng.choice([0, 1, 7, 40])
     room = some_bytes(rng, length) if name == "write_case" else some_room(rng, length)
@@ -485,10 +606,7 @@ def call_aiming_at(rng, name, number):
     if number in CASE_BREAKERS:
         case, place = broken_case(rng, number)
     else:
-        place = 0
-        case = case_with_releases(rng, RELEASES_FOR.get(number, 0))
-        while name == "running_set" and number == 0 and case.end == 0:
-            case = legal_case(rng)
+        case, place = legal_case(rng), 0
     return call_of(rng, name, case, number, place)
 
 
@@ -742,14 +860,10 @@ def text_out_of_order(rng):
     return joined(spoiled(rng, changed, place)), 3, place
 
 
-def case_for_text(rng, releases):
-    return case_with_releases(rng, releases, rng.choice(["tiny", "small"]))
-
-
 def text_with_number_fault(rng, number):
     """A text in good form and order whose numbers are at fault."""
     while True:
-        case = case_for_text(rng, RELEASES_FOR.get(number, 0))
+        case = case_to_break(rng, number, rng.choice(["tiny", "small"]))
         place = 0
         broken = None
         if number == 4:
@@ -780,6 +894,8 @@ def text_with_number_fault(rng, number):
             broken = break_order(rng, case, wild_in_text)
         elif number == 10:
             broken = break_separation(rng, case, wild_in_text)
+        elif number == 16:
+            broken = break_appearance(rng, case)
         if broken is not None:
             case, place = broken
             return text_of(case, rng.random() < 0.7), number, place
@@ -856,7 +972,7 @@ TEXT_KINDS = {
     "out of order": text_out_of_order,
     **{f"numbers, {number}": (lambda rng, number=number:
                               text_with_number_fault(rng, number))
-       for number in (4, 5, 6, 7, 12, 8, 11, 9, 10)},
+       for number in (4, 5, 6, 7, 12, 8, 11, 9, 10, 16)},
     "damaged": text_damaged,
     "bytes": text_of_bytes,
     "short room": None,

@@ -23,13 +23,16 @@ ROOMS = {"counts": 1, "replay": 1, "running_set": 0, "read_case": 2, "write_case
 SET_A = [10, 1, 4, 10, 1, 1, 10, 5, 5]
 SET_B = [15, 5, 9, 15, 5, 9, 15, 6, 10]
 ALL_AT_0 = [0, 1, 0, 2, 0, 3]
+ABSENT = [0, 1, 0, 2]
 LARGEST = 4294967295
 
 HEAD_A = b"procs\t2\n"
 REST_A = (b"task\t10\t1\t4\ntask\t10\t1\t1\ntask\t10\t5\t5\nend\t10\n"
           b"release\t0\t1\nrelease\t0\t2\nrelease\t0\t3\n")
 TEXT_A = HEAD_A + b"policy\tedf-cf\n" + REST_A
-TEXT_B = b"procs\t32\npolicy\tedf\ntask\t15\t5\t9\ntask\t15\t5\t9\ntask\t15\t6\t10\nend\t100000\n"
+TEXT_B = (b"procs\t32\npolicy\tedf\ntask\t15\t5\t9\ntask\t15\t5\t9\ntask\t15\t6\t10\nend\t100000\n"
+          b"release\t0\t2\nrelease\t99998\t3\nrelease\t99999\t1\n")
+TEXT_ABSENT = HEAD_A + b"policy\tedf-cf\n" + REST_A.replace(b"release\t0\t3\n", b"")
 
 
 # ---------------------------------------------------------------------------
@@ -77,8 +80,9 @@ def of_replay():
             ("set A under EDF in a longer room", (2, 0, SET_A, 10, ALL_AT_0), 6000, [2, 1, 0], [1, 1, 0, 1, 1, 0, 2, 0, 0]),
             ("set B", (2, 0, SET_B, 10, ALL_AT_0), 9, [2, 1, 0], [1, 5, 0, 1, 5, 0, 2, 0, 0]),
             ("set B with end 9", (2, 0, SET_B, 9, ALL_AT_0), 10, [2, 0, 1], [1, 5, 0, 1, 5, 0, 3, 0, 0]),
-            ("nothing", (2, 0, SET_A, 0, []), 0, [0, 0, 0], []),
-            ("T between releases", (2, 0, SET_A, 20, [0, 1, 10, 1]), 6, [2, 0, 0], [1, 1, 0, 1, 11, 0])]:
+            ("one slot", (2, 0, SET_A, 1, ALL_AT_0), 9, [2, 0, 1], [1, 1, 0, 1, 1, 0, 3, 0, 0]),
+            ("T between releases", (2, 0, SET_A, 20, [0, 1, 4, 2, 10, 1, 10, 3]), 12, [4, 0, 0],
+             [1, 1, 0, 1, 5, 0, 1, 11, 0, 1, 15, 0])]:
         yield taken(what, "replay", (*case, room(length)), totals, records)
     for what, case, length, number, place in [
             ("33 processors", (33, 2, SET_A, 10, ALL_AT_0), 9, 4, 0),
@@ -94,6 +98,12 @@ def of_replay():
             ("releases out of order", (2, 1, SET_A, 10, [0, 2, 0, 1]), 9, 9, 2),
             ("the same release twice", (2, 1, SET_A, 10, [0, 1, 0, 1]), 9, 9, 2),
             ("less than T between releases", (2, 0, SET_A, 20, [0, 1, 9, 1]), 0, 10, 2),
+            ("no release", (2, 0, SET_A, 0, []), 0, 16, 1),
+            ("a third task without a release", (2, 1, SET_A, 10, ABSENT), 9, 16, 3),
+            ("the same before the room", (2, 1, SET_A, 10, ABSENT), 5, 16, 3),
+            ("the lowest of two tasks without a release", (2, 1, SET_A, 20, [0, 1, 10, 1]), 6, 16, 2),
+            ("a third task whose only release is at the end", (2, 1, SET_A, 10, [0, 1, 0, 2, 10, 3]), 9, 11, 3),
+            ("a second task whose only release is out of order", (2, 1, SET_A, 10, [0, 1, 0, 3, 0, 2]), 9, 9, 3),
             ("room one short", (2, 1, SET_A, 10, ALL_AT_0), 8, 13, 0),
             ("no room", (2, 1, SET_A, 10, ALL_AT_0), 0, 13, 0)]:
         yield refused(what, "replay", (*case, room(length)), number, place)
@@ -112,6 +122,9 @@ def of_running_set():
     yield refused("no processor", "running_set", (0, 1, SET_A, 10, ALL_AT_0, 10), 4)
     yield refused("policy 4294967295", "running_set", (2, LARGEST, SET_A, 10, ALL_AT_0, 0), 14)
     yield refused("the same release twice", "running_set", (2, 1, SET_A, 10, [0, 1, 0, 1], 10), 9, 2)
+    yield refused("no release", "running_set", (2, 1, SET_A, 0, [], 0), 16, 1)
+    yield refused("a third task without a release", "running_set", (2, 1, SET_A, 10, ABSENT, 0), 16, 3)
+    yield refused("the same before the slot", "running_set", (2, 1, SET_A, 10, ABSENT, 10), 16, 3)
 
 
 def of_read():
@@ -133,7 +146,11 @@ def of_read():
             ("a broken task", b"procs\t2\ntask\t10\t1\t4\ntask\t1\t2\t3\nend\t10\n", 6, 2),
             ("end over 100,000", b"procs\t2\ntask\t10\t1\t4\nend\t100001\n", 7, 0),
             ("a release of no task", b"procs\t2\ntask\t10\t1\t4\nend\t10\nrelease\t0\t2\n", 8, 1),
-            ("a release at the end", b"procs\t2\ntask\t10\t1\t4\nend\t10\nrelease\t0\t1\nrelease\t10\t1\n", 11, 2)]:
+            ("a release at the end", b"procs\t2\ntask\t10\t1\t4\nend\t10\nrelease\t0\t1\nrelease\t10\t1\n", 11, 2),
+            ("no release", b"procs\t2\ntask\t10\t1\t4\nend\t0\n", 16, 1),
+            ("a third task without a release", TEXT_ABSENT, 16, 3),
+            ("the same and a release of a fourth task", TEXT_ABSENT + b"release\t1\t4\n", 8, 3),
+            ("the same and a cut line", TEXT_ABSENT + b"release\t0\t3", 2, 9)]:
         yield refused(what, "read_case", (text, *rooms), number, place)
 
 
@@ -142,7 +159,7 @@ def of_write():
     for what, case, spare, text in [
             ("the case of document 01", a, 0, TEXT_A),
             ("the same into a longer room", a, 1000, TEXT_A),
-            ("a case without releases", (32, 0, SET_B, 100000, []), 1, TEXT_B)]:
+            ("a case with one release a task", (32, 0, SET_B, 100000, [0, 2, 99998, 3, 99999, 1]), 1, TEXT_B)]:
         yield taken(what, "write_case", (*case, bytes_room(len(text) + spare)), [len(text)], text)
     for what, case, length, number, place in [
             ("room one short", a, len(TEXT_A) - 1, 13, 0),
@@ -150,7 +167,10 @@ def of_write():
             ("no processor", (0, 2, SET_A, 10, ALL_AT_0), 1000, 4, 0),
             ("policy 2", (2, 2, SET_A, 100001, ALL_AT_0), 1000, 14, 0),
             ("end over 100,000", (2, 1, SET_A, 100001, ALL_AT_0), 0, 7, 0),
-            ("less than T between releases", (2, 1, SET_A, 20, [0, 1, 9, 1]), 0, 10, 2)]:
+            ("less than T between releases", (2, 1, SET_A, 20, [0, 1, 9, 1]), 0, 10, 2),
+            ("no release", (32, 0, SET_B, 100000, []), 1000, 16, 1),
+            ("a third task without a release", (2, 1, SET_A, 10, ABSENT), 1000, 16, 3),
+            ("the same before the room", (2, 1, SET_A, 10, ABSENT), 0, 16, 3)]:
         yield refused(what, "write_case", (*case, bytes_room(length)), number, place)
 
 

@@ -1,5 +1,7 @@
-"""The times of the gate by crate are those that `rt` printed."""
+"""The times of the gate by crate are those that `rt` printed, and what bench/run measures is accepted where it is meant to be."""
 
+import importlib.machinery
+import importlib.util
 import os
 import sys
 import tempfile
@@ -9,6 +11,7 @@ ROOT = os.path.dirname(os.path.dirname(os.path.abspath(__file__)))
 sys.path.insert(0, os.path.join(ROOT, "bench"))
 
 import gate
+import replay
 
 # Lines as `rt` prints them, one of each form, among others that have no time.
 PRINTED = """\
@@ -63,6 +66,30 @@ class Gate(unittest.TestCase):
     def test_nothing_left(self):
         with tempfile.TemporaryDirectory() as target:
             self.assertEqual(gate.by_crate(gate.left_in(target)), {})
+
+
+def bench_run():
+    """bench/run as a module."""
+    loader = importlib.machinery.SourceFileLoader("bench_run", os.path.join(ROOT, "bench", "run"))
+    module = importlib.util.module_from_spec(importlib.util.spec_from_loader("bench_run", loader))
+    loader.exec_module(module)
+    return module
+
+
+class Measured(unittest.TestCase):
+    """A case that was refused would be measured as nearly nothing."""
+
+    def test_the_cases_are_accepted(self):
+        for name, case in bench_run().CASES:
+            with self.subTest(case=name):
+                self.assertIsNone(replay.fault_of_case(*case))
+                # The checks alone are measured by a room that is too short for what passed them.
+                self.assertEqual(replay.replay(*case, []).number, 13)
+
+    def test_the_long_text_is_refused_at_its_end(self):
+        text = bench_run().long_text()
+        answer, _ = replay.read_for_program(text)
+        self.assertEqual((len(text), answer.number, answer.values), (60_000, 12, [0]))
 
 
 if __name__ == "__main__":

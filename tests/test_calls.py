@@ -7,7 +7,7 @@ import cases
 import driven
 
 # Each call with each of its aims in turn: 3,000 give over 2,000 calls of the
-# counts, the replay and the running set, and some 800 of the writer.
+# counts, the replay and the running set, and nearly 900 of the writer.
 COUNT = 3_000
 
 
@@ -47,9 +47,7 @@ class Calls(unittest.TestCase):
             for policy in (0, 1):
                 case = drawn._replace(policy=policy)
                 calls.append(("replay", (*case, room)))
-                if case.end > 0:
-                    calls.append(("running_set",
-                                  (*case, rng.randrange(case.end))))
+                calls.append(("running_set", (*case, rng.randrange(case.end))))
         found = driven.hold(self, calls)
         self.assertEqual({answer.number for answer in found}, {0})
         driven.print_tally("legal cases:", driven.tally(calls, found))
@@ -94,9 +92,8 @@ class Calls(unittest.TestCase):
         for case in cases.large_cases("built", 8):
             room = list(range(3 * len(case.trace) // 2))
             calls += [("counts", (case.procs, case.table, [0] * 32)),
-                      ("replay", (*case, room))]
-            if case.end > 0:
-                calls.append(("running_set", (*case, case.end - 1)))
+                      ("replay", (*case, room)),
+                      ("running_set", (*case, case.end - 1))]
         driven.hold(self, calls)
 
     def test_full_size(self):
@@ -114,6 +111,36 @@ class Calls(unittest.TestCase):
         found = driven.hold(self, calls)
         self.assertEqual([answer.number for answer in found],
                          [0, 13, 0, 15] * 2)
+
+    def test_full_size_without_one_task(self):
+        """32 tasks and nearly 2,000 releases, none of one of the tasks."""
+        whole = cases.full_case(random.Random("full size"), 1)
+        absent = [1, 2, 16, 31, 32]
+        calls = []
+        for task in absent:
+            rest = cases.releases_but_of(whole, [task])
+            case = whole._replace(trace=cases.flat(rest))
+            calls += [("replay", (*case, [7] * 6_000)),
+                      ("replay", (*case, [])),
+                      ("running_set", (*case, 0)),
+                      ("running_set", (*case, 100_000)),
+                      ("write_case", (*case, [7] * 60_000)),
+                      ("write_case", (*case, []))]
+        found = driven.hold(self, calls)
+        self.assertEqual([(answer.number, answer.values) for answer in found],
+                         [(16, [task]) for task in absent for _ in range(6)])
+
+    def test_each_task_left_out(self):
+        """32 tasks, all of them released in the only slot, and then all but one."""
+        releases = [(0, task) for task in range(1, 33)]
+        kept = [releases] + [releases[:k] + releases[k + 1:] for k in range(32)]
+        found = driven.hold(self, [
+            (name, (32, 1, [5, 1, 5] * 32, 1, cases.flat(some), last))
+            for name, last in [("replay", [7] * 96), ("running_set", 0)]
+            for some in kept])
+        refused = [(16, [task]) for task in range(1, 33)]
+        self.assertEqual([(answer.number, answer.values) for answer in found],
+                         [(0, [32, 0, 0]), *refused, (0, [2**32 - 1]), *refused])
 
 
 if __name__ == "__main__":

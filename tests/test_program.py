@@ -33,6 +33,7 @@ slot N          the tasks that run in slot N
 write           the case in its canonical text
 -q              leaves out the words on standard error for a refused case
 
+A case that breaks a rule, or has a task that is never released, prints refused, number, place.
 The exit status is 0; 2 for a refused case; 64 for words that ask for nothing that there is;
 1 where the case could not be read, the answer not be written, or the program not be built.
 """
@@ -52,6 +53,7 @@ REASONS = {
     11: "release P: its time is not before the end",
     12: "releases: over 2,000, or not two numbers each",
     15: "slot: not before the end",
+    16: "task P: is never released, so no verdict covers it",
 }
 
 # The case and the lines that document 01 prints.
@@ -72,6 +74,9 @@ job 0 2 1 met 1 -
 job 0 3 5 met 5 -
 total 3 3 0 0
 """
+
+# The same case with no release of task 3.
+WITHOUT_TASK_3 = PRINTED_CASE.replace(b"release\t0\t3\n", b"")
 
 # Words that ask for nothing that there is, and the first that is not known; None where each is known by itself.
 WRONG_WORDS = [
@@ -193,13 +198,31 @@ class Printed(OfTheProgram):
                           PRINTED_CASE.replace(b"edf-cf", b"edf"))
 
     def test_a_refused_case_is_refused_in_every_way(self):
-        text = PRINTED_CASE.replace(b"procs\t2", b"procs\t33")
-        for words in [[], ["counts"], ["slot", "0"], ["slot", "99"], ["write"]]:
-            self.assertPrints(words, text, b"refused 4 0\n")
+        for text, line in [(PRINTED_CASE.replace(b"procs\t2", b"procs\t33"), b"refused 4 0\n"),
+                           (WITHOUT_TASK_3, b"refused 16 3\n")]:
+            for words in [[], ["counts"], ["slot", "0"], ["slot", "99"], ["write"]]:
+                self.assertPrints(words, text, line)
+
+    def test_a_task_without_a_release(self):
+        """The lowest such task, after all that a release can break."""
+        head, rest = PRINTED_CASE.split(b"release", 1)[0], WITHOUT_TASK_3
+        for text, line in [
+                (head, b"refused 16 1\n"),
+                (head.replace(b"end\t10", b"end\t0"), b"refused 16 1\n"),
+                (head + b"release\t0\t1\n", b"refused 16 2\n"),
+                (head + b"release\t0\t2\nrelease\t0\t3\n", b"refused 16 1\n"),
+                (head + b"release\t0\t1\nrelease\t0\t3\n", b"refused 16 2\n"),
+                (rest, b"refused 16 3\n"),
+                (rest + b"release\t9\t4\n", b"refused 8 3\n"),
+                (rest + b"release\t10\t3\n", b"refused 11 3\n"),
+                (rest + b"release\t0\t2\n", b"refused 9 3\n"),
+                (rest + b"release\t9\t2\n", b"refused 10 3\n"),
+                (rest + b"release\t0\t3", b"refused 2 9\n")]:
+            self.assertPrints([], text, line)
 
     def test_every_example(self):
         found = sorted(glob.glob(os.path.join(EXAMPLES, "*.case")))
-        self.assertGreater(len(found), 9)
+        self.assertGreater(len(found), 14)
         for name in found:
             with open(name, "rb") as case:
                 text = case.read()
@@ -226,6 +249,7 @@ class Words(OfTheProgram):
         for words in [[], ["counts"], ["slot", "0"], ["write"]]:
             for asked in [["-q", *words], [*words, "-q"]]:
                 self.assertEqual(printed(asked, refused), (b"refused 4 0\n", b""), asked)
+                self.assertEqual(printed(asked, WITHOUT_TASK_3), (b"refused 16 3\n", b""), asked)
                 self.assertEqual(printed(asked, PRINTED_CASE),
                                  (expected(words, PRINTED_CASE), b""), asked)
 
@@ -248,7 +272,8 @@ class Reasons(OfTheProgram):
             10: ([], head + b"end\t10\nrelease\t0\t1\nrelease\t4\t1\n"),
             11: ([], head + b"end\t5\nrelease\t0\t1\nrelease\t5\t1\n"),
             12: ([], head + b"end\t100000\n" + many),
-            15: (["slot", "5"], head + b"end\t5\n"),
+            15: (["slot", "5"], head + b"end\t5\nrelease\t0\t1\n"),
+            16: ([], head + b"task\t5\t1\t5\nend\t5\nrelease\t0\t1\n"),
         }
         self.assertEqual(set(met), set(REASONS))
         for number, (words, text) in met.items():
@@ -257,6 +282,13 @@ class Reasons(OfTheProgram):
             self.assertEqual(said, said_of(lines), number)
             place = lines.split()[2]
             self.assertEqual(place + b":" in said, b"P" in REASONS[number].encode(), number)
+
+    def test_the_words_for_a_task_without_a_release(self):
+        self.assertEqual(printed([], WITHOUT_TASK_3),
+                         (b"refused 16 3\n", b"thrumcomb: task 3: is never released, so no verdict covers it\n"))
+        all_but_32 = cases.flat((0, task) for task in range(1, 32))
+        self.assertEqual(printed([], cases.text_of(cases.Case(1, 0, [5, 1, 5] * 32, 1, all_but_32))),
+                         (b"refused 16 32\n", b"thrumcomb: task 32: is never released, so no verdict covers it\n"))
 
 
 class InAndOut(OfTheProgram):
@@ -326,7 +358,8 @@ class InAndOut(OfTheProgram):
         told = ("sh", "-c", 'exec "$0" "$@" 3>&1 >/dev/null 2>&1', RUNNER, PROGRAM)
         for words, text, outcome in [
                 ([], PRINTED_CASE, b"0"), (["help"], b"", b"0"), ([], b"", b"2"),
-                (["slot", "10"], PRINTED_CASE, b"2"), (["nothing"], PRINTED_CASE, b"64")]:
+                (["slot", "10"], PRINTED_CASE, b"2"), ([], WITHOUT_TASK_3, b"2"),
+                (["nothing"], PRINTED_CASE, b"64")]:
             self.assertEqual(run(words, text, told).stdout, outcome, words)
         failed = ("sh", "-c", 'exec "$0" "$@" 3>&1 >/dev/full 2>&1', RUNNER, PROGRAM)
         for words in [[], ["help"]]:
@@ -402,6 +435,9 @@ class Script(OfTheProgram):
         self.assertEnds([], b"", 2, b"refused 3 1\n")
         self.assertEnds(["slot", "10"], PRINTED_CASE, 2, b"refused 15 0\n")
         self.assertEnds(["write"], b"procs\n", 2, b"refused 2 1\n")
+        for words in [[], ["counts"], ["slot", "0"], ["slot", "10"], ["write"]]:
+            self.assertEnds(words, WITHOUT_TASK_3, 2, b"refused 16 3\n")
+            self.assertEnds(["-q", *words], WITHOUT_TASK_3, 2, b"refused 16 3\n", b"")
         self.assertEnds(["-q"], b"", 2, b"refused 3 1\n", b"")
         self.assertEnds(["slot", "10", "-q"], PRINTED_CASE, 2, b"refused 15 0\n", b"")
 

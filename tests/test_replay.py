@@ -1,5 +1,6 @@
-"""Tests of replay.py against document 01."""
+"""Tests of replay.py against document 01 and the requests that changed it."""
 
+import collections
 import re
 import unittest
 
@@ -116,10 +117,11 @@ class WorkedByHand(Checks):
                 self.assertAccepted(answer, [2, 0, 0], [1, 2, 0, 1, 4, 0])
 
     def test_end_0_without_release(self):
+        """Totals 0, 0, 0 before request P1, by which task 1 has to appear."""
         for policy in POLICIES:
             with self.subTest(policy=policy):
                 answer = replay.replay(1, policy, [5, 1, 5], 0, [], roomy(2))
-                self.assertAccepted(answer, [0, 0, 0], roomy(2))
+                self.assertRefused(answer, 16, 1, roomy(2))
 
     def test_separation_of_just_t(self):
         room = roomy(6)
@@ -330,9 +332,10 @@ class Printed(unittest.TestCase):
                          b"job 0 3 10 open - -\n"
                          b"total 3 2 0 1\n")
 
-    def test_no_release(self):
-        text = b"procs\t1\ntask\t5\t1\t5\nend\t0\n"
-        self.assertEqual(replay.report(text), b"run edf 1 1 0\ntotal 0 0 0 0\n")
+    def test_a_single_release(self):
+        text = b"procs\t1\ntask\t5\t1\t5\nend\t1\nrelease\t0\t1\n"
+        self.assertEqual(replay.report(text),
+                         b"run edf 1 1 1\njob 0 1 5 met 1 -\ntotal 1 1 0 0\n")
 
     def test_counts(self):
         self.assertEqual(replay.counts_report(PRINTED_CASE),
@@ -363,6 +366,9 @@ class Printed(unittest.TestCase):
                 (PRINTED_CASE.replace(b"end\t10", b"end\t0"),
                  b"refused 11 1\n"),
                 (PRINTED_CASE + b"release\t9\t3\n", b"refused 10 4\n"),
+                (PRINTED_CASE.replace(b"release\t0\t3\n", b""),
+                 b"refused 16 3\n"),
+                (HEAD + b"end\t0\n", b"refused 16 1\n"),
         ]:
             with self.subTest(text=text[:80]):
                 self.assertEqual(replay.report(text), expected)
@@ -441,6 +447,18 @@ FAULTS = [
     ((1, 0, [5, 1, 5, 5, 1, 5], 9, [0, 1, 2, 2, 4, 1]), 10, 3),
     ((1, 0, [5, 1, 5, 3, 1, 3], 9, [0, 1, 0, 2, 3, 2, 4, 1]), 10, 4),
     ((1, 0, [10_000, 1, 1], 20_000, [0, 1, 9_999, 1, 0, 0]), 10, 2),
+    # 16
+    ((1, 0, [5, 1, 5], 0, []), 16, 1),
+    ((1, 0, [5, 1, 5], 100_000, []), 16, 1),
+    ((2, 1, SET_A, 10, []), 16, 1),
+    ((2, 1, SET_A, 10, [0, 2, 0, 3]), 16, 1),
+    ((2, 1, SET_A, 10, [0, 1, 0, 3]), 16, 2),
+    ((2, 1, SET_A, 10, [0, 1, 0, 2]), 16, 3),
+    ((2, 1, SET_A, 10, [9, 3]), 16, 1),
+    ((1, 0, [5, 1, 5] * 32, 5, [0, 1, 0, 31]), 16, 2),
+    ((1, 0, [5, 1, 5] * 32, 5, [n for k in range(1, 32) for n in (0, k)]), 16, 32),
+    ((1, 0, [5, 1, 5] * 32, 5, [n for k in range(2, 33) for n in (4, k)]), 16, 1),
+    ((1, 0, [1, 1, 1] * 2, 3_000, [n for t in range(2_000) for n in (t, 1)]), 16, 2),
 ]
 
 
@@ -507,8 +525,9 @@ class RefusedNumbers(Checks):
         for slot in (10, 11, BIG):
             self.assertRefused(replay.running_set(*case, slot), 15, 0)
         self.assertAccepted(replay.running_set(*case, 9), [0])
-        empty = (2, EDF, SET_A, 0, [])
-        self.assertRefused(replay.running_set(*empty, 0), 15, 0)
+        shortest = (2, EDF, SET_A, 1, ALL_THREE)
+        self.assertAccepted(replay.running_set(*shortest, 0), [3])
+        self.assertRefused(replay.running_set(*shortest, 1), 15, 0)
 
     def test_numbers_at_their_limits_are_accepted(self):
         table = [10_000, 10_000, 10_000] * 32
@@ -541,6 +560,110 @@ class RefusedNumbers(Checks):
         self.assertEqual((table, trace, room), (SET_A, ALL_THREE, roomy(9)))
         self.assertEqual(text_room, bytearray(200))
         self.assertEqual((task_room, release_room), (roomy(96), roomy(4_000)))
+
+
+class EveryTaskAppears(Checks):
+    """Request P1: a task without a release is refused as 16.
+
+    It is tested after all that a release can break, before room and slot.
+    """
+
+    def assertAllRefuse(self, case, number, place):
+        """Every call that takes a trace, and the program in all its ways."""
+        for room in ([], roomy(7_000)):
+            self.assertRefused(replay.replay(*case, room), number, place, room)
+        for slot in (0, case[3], BIG):
+            self.assertRefused(replay.running_set(*case, slot), number, place)
+        for room in (b"", bytes(7_000)):
+            self.assertRefused(replay.write_case(*case, room), number, place,
+                               list(room))
+        text = cases.text_of(cases.Case(*case))
+        rooms = roomy(96), roomy(4_000)
+        self.assertRefused(replay.read_case(text, *rooms), number, place, *rooms)
+        found = [replay.report(text), replay.counts_report(text),
+                 replay.slot_report(text, 0), replay.slot_report(text, BIG),
+                 replay.write_report(text)]
+        self.assertEqual(found, [b"refused %d %d\n" % (number, place)] * 5)
+
+    def test_a_result_that_would_not_cover_a_task(self):
+        # Set A without the release of task 3: the jobs that there are all meet.
+        self.assertAllRefuse((2, EDF_CF, SET_A, 10, [0, 1, 0, 2]), 16, 3)
+
+    def test_the_lowest_of_several_tasks(self):
+        for trace, place in [([0, 1], 2), ([0, 2], 1), ([0, 3], 1),
+                             ([0, 1, 10, 1, 20, 1], 2)]:
+            self.assertAllRefuse((2, EDF_CF, SET_A, 30, trace), 16, place)
+
+    def test_no_release_at_all(self):
+        for policy in POLICIES:
+            for end in (0, 1, 100_000):
+                self.assertAllRefuse((1, policy, [5, 1, 5], end, []), 16, 1)
+                self.assertAllRefuse((2, policy, SET_A, end, []), 16, 1)
+
+    def test_after_the_separation_of_the_last_release(self):
+        # Neither task 1 nor task 3 appears, and task 2 comes back at 9 or 10.
+        self.assertAllRefuse((2, EDF_CF, SET_A, 30, [0, 2, 9, 2]), 10, 2)
+        self.assertAllRefuse((2, EDF_CF, SET_A, 30, [0, 2, 10, 2]), 16, 1)
+
+    def test_after_all_that_is_tested_before_the_releases(self):
+        absent = cases.Case(2, EDF_CF, SET_A, 10, [0, 1, 0, 2])
+        for broken, number, place in [
+                (absent._replace(procs=33), 4, 0),
+                (absent._replace(policy=2), 14, 0),
+                (absent._replace(table=SET_A[:8]), 5, 0),
+                (absent._replace(table=[10, 5, 4] + SET_A[3:]), 6, 1),
+                (absent._replace(end=100_001), 7, 0),
+                (absent._replace(trace=[0, 1, 0]), 12, 0)]:
+            self.assertRefused(replay.replay(*broken, []), number, place, [])
+            self.assertRefused(replay.running_set(*broken, BIG), number, place)
+            self.assertRefused(replay.write_case(*broken, []), number, place, [])
+
+    def test_before_room_and_slot(self):
+        absent = (2, EDF_CF, SET_A, 10, [0, 1, 0, 2])
+        whole = (2, EDF_CF, SET_A, 10, ALL_THREE)
+        for case, number, place in [(absent, 16, 3), (whole, 13, 0)]:
+            self.assertRefused(replay.replay(*case, roomy(5)), number, place,
+                               roomy(5))
+            self.assertRefused(replay.write_case(*case, b"-" * 90), number, place,
+                               list(b"-" * 90))
+        self.assertRefused(replay.running_set(*absent, 10), 16, 3)
+        self.assertRefused(replay.running_set(*whole, 10), 15, 0)
+
+    def test_a_task_whose_only_release_is_refused(self):
+        """The release's own refusal: it is not passed over, so 16 is not met."""
+        for trace, number, place in [
+                ([0, 1, 0, 2, 10, 3], 11, 3),
+                ([0, 1, 0, 3, 0, 2], 9, 3),
+                ([0, 2, 0, 1, 0, 3], 9, 2),
+                ([0, 1, 0, 2, 0, 4], 8, 3),
+                ([0, 0, 0, 2, 0, 3], 8, 1)]:
+            self.assertAllRefuse((2, EDF_CF, SET_A, 10, trace), number, place)
+
+    def test_a_release_counts_for_its_own_task(self):
+        # Task 2 as often as it can be: not task 1 or 3, which stand beside it.
+        often = [number for time in range(0, 100, 10) for number in (time, 2)]
+        self.assertAllRefuse((2, EDF_CF, SET_A, 100, often), 16, 1)
+        self.assertAllRefuse((2, EDF_CF, SET_A, 100, [0, 1] + often), 16, 3)
+        self.assertAllRefuse((2, EDF_CF, SET_A, 100, often + [95, 3]), 16, 1)
+
+    def test_one_release_of_a_task_is_enough(self):
+        """In the only slot, or late, in the order of the tasks or another."""
+        often = [number for time in range(0, 90, 10) for number in (time, 2)]
+        for end, trace in [(1, ALL_THREE), (100, [0, 1, 50, 2, 99, 3]),
+                           (100, [0, 3, 50, 2, 99, 1]),
+                           (100, often + [98, 3, 99, 1])]:
+            case = (2, EDF, SET_A, end, trace)
+            self.assertEqual(replay.replay(*case, roomy(60)).number, 0)
+            self.assertEqual(replay.running_set(*case, 0).number, 0)
+            self.assertEqual(replay.write_case(*case, bytes(600)).number, 0)
+            text = cases.text_of(cases.Case(*case))
+            self.assertEqual(replay.read_for_program(text)[1], case)
+
+    def test_the_counts_do_not_ask_for_it(self):
+        # They get no trace.  The program's counts do: it reads a case first.
+        self.assertAccepted(replay.counts(2, SET_A, roomy(3)), [3], [1, 0, 2])
+        text = cases.text_of(cases.Case(2, EDF_CF, SET_A, 10, [0, 1, 0, 2]))
+        self.assertEqual(replay.counts_report(text), b"refused 16 3\n")
 
 
 # ---------------------------------------------------------------------------
@@ -644,6 +767,11 @@ TEXT_FAULTS = [
     (HEAD + b"end\t5\nrelease\t0\t1\nrelease\t5\t1\n", 11, 2),
     (HEAD + b"end\t9\nrelease\t1\t1\nrelease\t1\t1\n", 9, 2),
     (HEAD + b"end\t9\nrelease\t1\t1\nrelease\t5\t1\n", 10, 2),
+    (HEAD + b"end\t0\n", 16, 1),
+    (HEAD + b"end\t5\n", 16, 1),
+    (HEAD + b"task\t5\t1\t5\nend\t5\nrelease\t0\t1\n", 16, 2),
+    (HEAD + b"task\t5\t1\t5\nend\t5\nrelease\t0\t2\n", 16, 1),
+    (HEAD + b"task\t5\t1\t5\nend\t5\nrelease\t0\t2\nrelease\t4\t2\n", 10, 2),
 ]
 
 
@@ -659,9 +787,9 @@ class RefusedTexts(Checks):
                                    task_room, release_room)
 
     def test_every_refusal_of_the_reader_is_tried(self):
-        # 1 and 13 have tests of their own; the reader cannot meet 14.
+        # 1 and 13 have tests of their own; the reader cannot meet 14 and 15.
         self.assertEqual({number for _, number, _ in TEXT_FAULTS},
-                         set(range(2, 13)))
+                         {*range(2, 13), 16})
 
     def test_length(self):
         # Well formed to the last byte, so that only the length differs.
@@ -691,10 +819,12 @@ class RefusedTexts(Checks):
                                 ALL_THREE + release_room[6:])
 
     def test_without_a_policy_line_the_policy_is_edf(self):
-        text = b"procs\t32\ntask\t10000\t1\t10000\nend\t100000\n"
+        text = (b"procs\t32\ntask\t10000\t1\t10000\nend\t100000\n"
+                b"release\t99999\t1\n")
         answer = replay.read_case(text, roomy(96), roomy(4_000))
-        self.assertAccepted(answer, [32, EDF, 100_000, 1, 0],
-                            [10_000, 1, 10_000] + roomy(96)[3:], roomy(4_000))
+        self.assertAccepted(answer, [32, EDF, 100_000, 1, 1],
+                            [10_000, 1, 10_000] + roomy(96)[3:],
+                            [99_999, 1] + roomy(4_000)[2:])
 
     def test_a_number_of_nine_digits_is_well_formed(self):
         # Read as a number, it is the end that is over its limit.
@@ -791,6 +921,36 @@ class RandomInputs(Checks):
                                  for name, numbers in cases.AIMS.items()
                                  for number in numbers})
 
+    def test_a_later_fault_beside_the_one_aimed_at(self):
+        """Every number but 16, 13 and 15 is met where a task is absent as well.
+
+        For 11 and 9 that is also the task whose only release is refused.
+        """
+        beside = collections.Counter()
+        only = collections.Counter()
+        for call in cases.calls("beside", 3_000):
+            if call.name == "counts":
+                continue
+            table, trace = call.args[2], call.args[4]
+            tasks, named = range(1, len(table) // 3 + 1), trace[1::2]
+            beside[call.number] += not set(tasks) <= set(named)
+            if call.number in (11, 9):
+                only[call.number] += named.count(named[call.place - 1]) == 1
+        for number in (4, 14, 5, 6, 7, 12, 8, 11, 9, 10):
+            self.assertGreater(beside[number], 20, number)
+        self.assertEqual([beside[number] for number in (0, 13, 15)], [0, 0, 0])
+        self.assertGreater(min(only[11], only[9]), 20)
+
+    def test_legal_cases_in_which_each_task_just_appears(self):
+        once = at_once = 0
+        for case in cases.legal_cases("just appears", 1_000):
+            tasks = len(case.table) // 3
+            self.assertEqual(set(case.trace[1::2]), set(range(1, tasks + 1)))
+            once += tasks > 1 and len(case.trace) == 2 * tasks
+            at_once += tasks > 1 and case.end == 1
+        self.assertGreater(once, 50)
+        self.assertGreater(at_once, 10)
+
     def test_texts(self):
         kinds = set()
         found = set()
@@ -819,7 +979,7 @@ class RandomInputs(Checks):
             kinds.add(text.kind)
             found.add(answer.number)
         self.assertEqual(kinds, set(cases.TEXT_KINDS))
-        self.assertEqual(found, set(range(0, 14)))
+        self.assertEqual(found, {*range(0, 14), 16})
 
     def test_reading_what_the_writer_wrote(self):
         tried = 0

@@ -48,7 +48,7 @@ class Texts(unittest.TestCase):
         kinds = collections.Counter(text.kind for text in drawn)
         print("  by kind: " + ", ".join(f"{kind} {count}"
                                         for kind, count in kinds.items()))
-        self.assertEqual(set(seen["read_case"]), set(range(14)))
+        self.assertEqual(set(seen["read_case"]), {*range(14), 16})
 
     def test_texts_read_and_written(self):
         """Writing what was read gives the same text but for the policy line."""
@@ -96,6 +96,20 @@ class Texts(unittest.TestCase):
         rooms = reader_rooms(rng)
         driven.hold(self, [("read_case", (text[:at], *rooms))
                            for at in range(len(text) + 1)])
+
+    def test_each_task_left_out(self):
+        """32 tasks, all of them released, and then all but one."""
+        case = cases.Case(2, 1, [9, 1, 9] * 32, 9,
+                          cases.flat((0, task) for task in range(1, 33)))
+        lines = cases.lines_of(case)
+        rooms = reader_rooms(random.Random("left out"))
+        calls = [("read_case", (cases.joined(lines), *rooms))]
+        calls += [("read_case", (cases.joined(lines[:at] + lines[at + 1:]), *rooms))
+                  for at in range(len(lines) - 32, len(lines))]
+        found = driven.hold(self, calls)
+        self.assertEqual([(answer.number, answer.values) for answer in found],
+                         [(0, [2, 1, 9, 32, 32])]
+                         + [(16, [task]) for task in range(1, 33)])
 
     def test_every_byte_in_each_place(self):
         """Each of 256 bytes put for each byte of a short text."""

@@ -1,9 +1,10 @@
 """The entries of document 01, "Worked by hand", made through the archive and by the program.
 
-Each entry holds the numbers that document 01 gives: the whole answer of the
-call and every lent room, which is longer than the answer needs and starts as
-nines, so that the numbers and bytes past it show too; and what the program
-prints for the same case.  replay.py gives the same answers.
+Each entry holds the numbers that document 01 gives, and where request P1
+changed them those of the request: the whole answer of the call and every lent
+room, which is longer than the answer needs and starts as nines, so that the
+numbers and bytes past it show too; and what the program prints for the same
+case.  replay.py gives the same answers.
 """
 
 import glob
@@ -33,11 +34,12 @@ Entry = namedtuple("Entry", "call answer words text printed example")
 
 
 def counted(procs, table, *free):
-    """The free counts of a table, the program's printed one a line."""
+    """The free counts of a table, the program's printed one a line: it reads a case, in which each task has to appear."""
     room = [9] * (len(free) + 1)
     lines = "".join(f"count {task} {count}\n" for task, count in enumerate(free, start=1))
+    each_at_0 = [number for task in range(1, len(free) + 1) for number in (0, task)]
     return Entry(("counts", (procs, table, room)), accepted([len(free)], [*free, 9]),
-                 ["counts"], cases.text_of(cases.Case(procs, EDF, table, 0, [])), lines.encode(), None)
+                 ["counts"], cases.text_of(cases.Case(procs, EDF, table, 1, each_at_0)), lines.encode(), None)
 
 
 def ran(procs, policy, table, end, trace, slot, set_number, line):
@@ -71,7 +73,7 @@ def printed_in(example):
 
 
 # ---------------------------------------------------------------------------
-# The entries, in the order of document 01
+# The entries, in the order of document 01; request P1's own stands beside the one that it changed
 
 
 def availability_through_counts():
@@ -114,10 +116,15 @@ def two_tasks():
     yield judged(1, EDF_CF, table, 4, [0, 1, 0, 2], [2, 0, 0], [1, 2, 0, 1, 4, 0], "two-tasks")
 
 
-def nothing():
-    """End 0, no release: totals 0, 0, 0."""
-    yield judged(1, EDF, [5, 1, 5], 0, [], [0, 0, 0], [], "end-0-edf")
-    yield judged(1, EDF_CF, [5, 1, 5], 0, [], [0, 0, 0], [], "end-0")
+def no_release():
+    """End 0, no release: 16 at place 1. Totals 0, 0, 0 in document 01; request P1 made it a refusal."""
+    yield not_taken(1, EDF, [5, 1, 5], 0, [], 16, 1, "refused-no-release-edf")
+    yield not_taken(1, EDF_CF, [5, 1, 5], 0, [], 16, 1, "refused-no-release")
+
+
+def task_without_release():
+    """Set A without the release of task 3, of which a clean result would say nothing (request P1): 16 at place 3."""
+    yield not_taken(2, EDF_CF, SET_A, 10, [0, 1, 0, 2], 16, 3, "refused-task-without-release")
 
 
 def separation():
@@ -141,7 +148,7 @@ def the_case_text():
                 accepted([101], TEXT_A + b"9999"), ["write"], TEXT_A, TEXT_A, None)
 
 
-LINES = [availability_through_counts, set_a, set_b, one_task, two_tasks, nothing, separation, the_case_text]
+LINES = [availability_through_counts, set_a, set_b, one_task, two_tasks, no_release, task_without_release, separation, the_case_text]
 
 
 class WorkedByHand(unittest.TestCase):
