@@ -9,7 +9,7 @@ use Rattle.rules.specs.declared.Fault.{Fault}
 use Rattle.rules.specs.Case.{Case, taskCount, releaseCount}
 use Rattle.rules.specs.Refusals.{noFault, faultOf, orNext, first, absentFault, absencesFault, caseTests, caseFault, replayFault}
 use Rattle.rules.specs.Refusals.{runningFault, Accepted}
-use Rattle.rules.specs.Answers.{Answer, refusal}
+use Rattle.rules.specs.Answers.{Answer, refusal, settled}
 use Rattle.rules.specs.Calls.{replayAnswer, runningAnswer}
 use Rattle.rules.specs.Writer.{writeFault, writeAnswer}
 use Rattle.legal.specs.Settled.{refuses}
@@ -77,17 +77,20 @@ module _ (c : Case) (fault : caseFault c .number ≡ 0 → ⊥) where
   abbrev refused : Answer
   refused = refusal (caseFault c .number) (caseFault c .place)
 
+  settled-first : (later : Fault) (values : List ℕ) → settled (first (caseFault c ∷ later ∷ [])) values ≡ refused
+  settled-first later values = sym (refuses (caseFault c) _ (stop (caseFault c) (caseFault c) _ refl fault) values fault)
+
   pub replay-refuses : (room : List ℕ) → replayAnswer c room ≡ refused
   unfolding replayAnswer replayFault
-  replay-refuses room = sym (refuses (caseFault c) _ (stop (caseFault c) (caseFault c) _ refl fault) _ fault)
+  replay-refuses room = settled-first _ _
 
   pub running-refuses : (s : ℕ) → runningAnswer c s ≡ refused
   unfolding runningAnswer runningFault
-  running-refuses s = sym (refuses (caseFault c) _ (stop (caseFault c) (caseFault c) _ refl fault) _ fault)
+  running-refuses s = settled-first _ _
 
   pub write-refuses : (room : List ℕ) → writeAnswer c room ≡ refused
   unfolding writeAnswer writeFault
-  write-refuses room = sym (refuses (caseFault c) _ (stop (caseFault c) (caseFault c) _ refl fault) _ fault)
+  write-refuses room = settled-first _ _
 
 -- an accepted case passes the earlier tests, and each of its tasks has a release
 pub accepted-each-appears : (c : Case) → Accepted c → (first (earlierTests c) .number ≡ 0) × EachAppears c
