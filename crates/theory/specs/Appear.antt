@@ -14,7 +14,8 @@ use Rattle.rules.specs.Calls.{replayAnswer, runningAnswer}
 use Rattle.rules.specs.Writer.{writeFault, writeAnswer}
 use Rattle.legal.specs.Settled.{refuses}
 use Rattle.legal.specs.Firsts.{next-none, next-some, next-clear, stop, row-clear, row-join, row-stop, none-all, first-hit}
-use Rattle.legal.specs.Passing.{table-clear, Released, releases-clear, Appears, absent-none, absent-found, absences-clear}
+use Rattle.legal.specs.Passing.{table-clear, Released, releases-clear, Appears, absent-none, absent-found}
+use Rattle.legal.specs.Legal.{legal}
 
 -- the tests that are made before 16
 abbrev pub earlierTests : Case → List Fault
@@ -92,11 +93,9 @@ module _ (c : Case) (fault : caseFault c .number ≡ 0 → ⊥) where
   unfolding writeAnswer writeFault
   write-refuses room = settled-first _ _
 
--- an accepted case passes the earlier tests, and each of its tasks has a release
+-- ---- an accepted case passes the earlier tests, and each of its tasks has a release
 pub accepted-each-appears : (c : Case) → Accepted c → (first (earlierTests c) .number ≡ 0) × EachAppears c
 unfolding Accepted caseFault
 accepted-each-appears c ok =
-    let last = absencesFault (c .table) (c .trace) ∷ [] in
-    let w = next-clear (first (earlierTests c)) (first last)
-    (ap (λ (f : Fault). f .number) (row-join (earlierTests c) last) ∙ ok) in
-    (w .0, absences-clear (c .table) (c .trace) (row-clear last (w .1) .0))
+    let whole = row-join (earlierTests c) (absencesFault (c .table) (c .trace) ∷ []) in
+    (next-clear (first (earlierTests c)) _ (ap (λ (f : Fault). f .number) whole ∙ ok) .0, legal c ok .appear)

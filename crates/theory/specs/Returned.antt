@@ -21,6 +21,7 @@ use Rattle.bridge.specs.Records.{taskAt}
 use Rattle.bridge.specs.Notes.{held-verdict, held-finish, held-demotion}
 use Rattle.legal.specs.Settled.{result-clear, kept-new}
 use Rattle.theory.specs.Appear.{accepted-each-appears}
+use Rattle.theory.specs.Verdicts.{one-of-three}
 use Rattle.theory.specs.Demand3.{dueAt, Judged, free-slots, demoted-meets, edf-met-stays-met}
 
 -- the three numbers that a room holds for release j
@@ -64,12 +65,14 @@ module _ (c : Case) (later : List ℕ) (w : Returned c later) where
     pub demotion-returned : demotionIn later j ≡ recordBy c (c .end) j .demotion
     demotion-returned = rw holds (held-demotion (recordBy c (c .end)) (releaseCount (c .trace)) _ j h)
 
--- each task of the table has a release, and the room holds the verdict of its job (request P1)
+-- each task of the table has a release, and the room says of its job that it is met, missed or open (request P1)
 pub returned-every-task : (c : Case) (later : List ℕ) → Returned c later → (i : ℕ) → i < taskCount (c .table)
-    → (j : ℕ) × ((j < releaseCount (c .trace)) × (taskAt c j ≡ i) × (verdictIn later j ≡ recordBy c (c .end) j .verdict))
+    → (j : ℕ) × ((j < releaseCount (c .trace)) × (taskAt c j ≡ i) × (1 ≤ verdictIn later j) × (verdictIn later j ≤ 3))
 returned-every-task c later w i h =
     let a = accepted-each-appears c (accepted c later w) .1 i h in
-    (a .release, (a .of-trace, omega (arith, a .of-task), verdict-returned c later w (a .release) (a .of-trace)))
+    let said = verdict-returned c later w (a .release) (a .of-trace) in
+    let lies = one-of-three c (c .end) (a .release) in
+    (a .release, (a .of-trace, omega (arith, a .of-task), omega (arith, said, lies .0), omega (arith, said, lies .1)))
 
 -- 1. at least the free count of the slots from release to deadline are contention-free
 pub returned-free-slots : (c : Case) (later : List ℕ) → Returned c later → (j : ℕ) → Judged c j

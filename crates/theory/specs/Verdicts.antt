@@ -2,7 +2,7 @@
 -- with a later one) and their totals: laws of `verdictOf` and `marked` (rules, Replay). For Demand3, Endings and Laws.
 use mathlib.Core.Path.{_≡_, refl}
 use mathlib.Core.Bool.{Bool, true, false}
-use Prim.Native.Nat.{ℕ, zero, suc, _+_, _-_, _<_}
+use Prim.Native.Nat.{ℕ, zero, suc, _+_, _-_, _≤_, _<_}
 use native.Mathlib.Omega.{arith}
 use lib.Dec.{eqb, leb}
 use Rattle.rules.specs.Words.{bit, sum, countIn, tab}
@@ -30,6 +30,18 @@ open-says zero false e = (refl, refl)
 open-says (suc f) come e = absurd (omega arith)
 
 -- ---- each record is marked with just one of the three
+verdict-lies : (f : ℕ) (come : Bool) → (1 ≤ verdictOf f come) × (verdictOf f come ≤ 3)
+verdict-lies zero true = (omega arith, omega arith)
+verdict-lies zero false = (omega arith, omega arith)
+verdict-lies (suc f) come = (omega arith, omega arith)
+
+pub one-of-three : (c : Case) (e j : ℕ) → (1 ≤ recordBy c e j .verdict) × (recordBy c e j .verdict ≤ 3)
+unfolding recordBy verdictBy
+one-of-three c e j =
+    let i = nameOf (c .trace) j - 1 in
+    let a = timeOf (c .trace) j in
+    verdict-lies (finishBy c i a e) (leb (a + deadline (c .table) i) e)
+
 one-mark : (f : ℕ) (come : Bool) → bit (eqb (verdictOf f come) 1) + bit (eqb (verdictOf f come) 2) + bit (eqb (verdictOf f come) 3)
     ≡ 1
 one-mark zero true = refl
