@@ -90,11 +90,11 @@ pub fn absences_fault(table: &[u32], last: &[u32; MAX_TASKS]) -> Fault
 {
     let tasks = cases::task_count(table);
     let mut found = faults::fault(0, 0);
-    let mut i: usize = 0;
-    while i < tasks {
-        let next = faults::absent_fault(last[i], i);
+    let mut k: usize = 0;
+    while k < tasks {
+        let next = faults::absent_fault(last[k], k);
         found = faults::or_next(found, next);
-        i += 1;
+        k += 1;
     }
     found
 }

@@ -11,10 +11,10 @@ use Rattle.checks.proofs.absences_fault.Statement.{statement}
 use Rattle.checks.proofs.absences_fault.Tie as tie
 
 abbrev Inv-loop : tie.InvT-loop
-Inv-loop table last tasks found₀ i₀ found i = (i ≤ tasks) × (found ≡ firstOf (unkeptFault last) i)
+Inv-loop table last tasks found₀ k₀ found k = (k ≤ tasks) × (found ≡ firstOf (unkeptFault last) k)
 
 abbrev μ-loop : tie.MeasureT-loop
-μ-loop table last tasks found₀ i₀ found i = tasks - i
+μ-loop table last tasks found₀ k₀ found k = tasks - k
 
 task-count-requires : tie.Need-task-count-requires Inv-loop μ-loop
 task-count-requires c κs = search needs
@@ -37,8 +37,8 @@ absent-fault-requires c κs = search needs
 or-next-requires : tie.Need-or-next-requires Inv-loop μ-loop
 or-next-requires c κs = search needs
 
-add-i : tie.Need-add-i Inv-loop μ-loop
-add-i c = search needs
+add-k : tie.Need-add-k Inv-loop μ-loop
+add-k c = search needs
 
 loop-less : tie.Need-loop-less Inv-loop μ-loop
 loop-less c = search needs
@@ -52,7 +52,7 @@ loop-again c =
 returns : tie.Need-returns Inv-loop μ-loop
 returns c =
     let start = c .before .before .before .before .before in
-    let e : c .before .loop .i ≡ taskCount (start .args .table .now) = omega (arith, c .before .before .before .task-count .ensures) in
+    let e : c .before .loop .k ≡ taskCount (start .args .table .now) = omega (arith, c .before .before .before .task-count .ensures) in
     c .before .loop .inv .1 ∙ ap (firstOf (unkeptFault (start .args .last .now))) e
 
 pub absences-fault-spec : {M : Type 1} → statement M
@@ -68,7 +68,7 @@ absences-fault-spec =
     element-copy-out-absent-fault
     absent-fault-requires
     or-next-requires
-    add-i
+    add-k
     loop-less
     loop-again
     returns)
