@@ -55,6 +55,12 @@ def joined(text):
     return " ".join(text.split())
 
 
+def misses(edit, read):
+    """The texts that a must-fail edit is to find once in a file of its crate, and does not: the gate refuses such an edit, late."""
+    pairs = re.findall(r"^file: (.*)\nold: (.*)\n", edit, re.M)
+    return [old for path, old in pairs if read(path).count(old) != 1]
+
+
 class Rules(unittest.TestCase):
 
     def test_a_wide_line_is_seen(self):
@@ -72,6 +78,14 @@ class Rules(unittest.TestCase):
         self.assertEqual([joined(quote) for quote in quotes("a\n```\nb  c\n d\n```\n")], ["b c d"])
 
 
+    def test_an_edit_that_misses_is_seen(self):
+        def edit(old):
+            return f"file: src/lib.rt\nold: {old}\nnew: d\n"
+
+        text = {"src/lib.rt": "a b c b"}.get
+        self.assertEqual([misses(edit(old), text) for old in "abx"], [[], ["b"], ["x"]])
+
+
 class Sources(unittest.TestCase):
 
     def test_lines(self):
@@ -83,6 +97,16 @@ class Sources(unittest.TestCase):
     def test_limits(self):
         bare = [(path, bare_limits(text, "//" if path.endswith(".rt") else "--")) for path, text in sources() if path not in NAMING]
         self.assertEqual([(path, found) for path, found in bare if found], [])
+
+    def test_edits(self):
+        def read(crate):
+            return lambda path: texts[os.path.join(crate, path)]
+
+        texts = dict(sources((".rt", ".antt", ".edit")))
+        edits = [(path, misses(text, read(os.path.dirname(os.path.dirname(path))))) for path, text in texts.items()
+                 if path.endswith(".edit")]
+        self.assertGreater(len(edits), 100)
+        self.assertEqual([(path, found) for path, found in edits if found], [])
 
     def test_what_the_reading_page_quotes(self):
         with open(os.path.join(kit.ROOT, "docs", "READING.md"), encoding="utf-8") as file:
