@@ -8,14 +8,14 @@ use lib.ListN.{length, getD}
 use Rattle.rules.specs.Words.{pick}
 use Rattle.rules.specs.Limits.{maxTasks}
 use Rattle.rules.specs.Policies.{demoting}
-use Rattle.rules.specs.Slot.{Setup, TaskSet, noTask, withJob, jobAt, leftOf, dueOf, eachTask, isMissed, judgedTask, judged, releasedJob}
-use Rattle.rules.specs.Slot.{releasedTask, joinedTask, joined, isDemotedNow, demotedTask, demoted, contentionFree, loweredJob, loweredTask}
-use Rattle.rules.specs.Slot.{lowered, readied, opened, chosen, workedJob, workedTask, worked, after, ran}
+use Rattle.rules.specs.Slot.{Setup, TaskSet, runOf, noTask, withJob, jobAt, leftOf, dueOf, eachTask, isMissed, judgedTask, judged}
+use Rattle.rules.specs.Slot.{releasedJob, releasedTask, joinedTask, joined, isDemotedNow, demotedTask, demoted, contentionFree}
+use Rattle.rules.specs.Slot.{loweredJob, loweredTask, lowered, readied, opened, chosen, workedJob, workedTask, worked, after, ran}
 use Rattle.rules.specs.declared.Job.{Job}
 use Rattle.rules.specs.declared.Job.the-variants.{Idle, Demoted}
 use Rattle.rules.specs.declared.Task.{Task}
 use Rattle.rules.specs.declared.Run.{Run}
-use Rattle.lists.specs.Lists.{mapFrom-long, mapAt-at}
+use Rattle.lists.specs.Lists.{mapFrom-long, mapFrom-cong, mapAt-at}
 
 abbrev pub Full : Run → Type 0
 Full r = length (r .tasks) ≡ maxTasks
@@ -138,3 +138,10 @@ module _ (i : ℕ) (l : i < maxTasks) where
       → jobAt (after g now s r) i ≡ pick (ran g now s r i) (workedJob (jobAt (opened g now s r) i)) (jobAt (opened g now s r) i)
   unfolding after ran
   after-at g now s r h = worked-at (chosen g now (opened g now s r)) (opened g now s r) (opened-full g now s r h)
+
+-- ---- two sets with the same tasks do the same work
+pub worked-same : (a b : TaskSet) (r : Run) → Full r → ((i : ℕ) → i < maxTasks → a i ≡ b i) → worked a r ≡ worked b r
+unfolding worked
+worked-same a b r full same =
+    ap runOf (mapFrom-cong (λ i t. pick (a i) (workedTask t) t) (λ i t. pick (b i) (workedTask t) t) 0 (r .tasks)
+    (λ i t x y. ap (λ (p : Bool). pick p (workedTask t) t) (same i (omega (arith, full)))))

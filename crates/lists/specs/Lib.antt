@@ -3,3 +3,4 @@ pub mod Sums
 pub mod Fill
 pub mod Fuse
 pub mod Tests
+pub mod Holds

@@ -1,5 +1,5 @@
--- Lists made or changed by index, texts that stand one after the other, and choices: laws of `tab`, `mapAt`, `pick` (rules, Words) and
--- `joinedText` (rules, Writer). Nothing of scheduling.
+-- Lists made or changed by index, texts that stand one after the other, choices, and the tasks of a set: laws of `tab`, `mapAt`, `pick`
+-- (rules, Words), `joinedText` (rules, Writer) and `tasksFrom` (rules, Slot). Nothing of scheduling.
 -- A run is a list of tasks, and the records are a list of numbers: most laws cite these.
 use mathlib.Core.Path.{_≡_, refl, sym, ap, ap₂, _∙_}
 use mathlib.Core.Bool.{Bool, true, false}
@@ -11,6 +11,7 @@ use native.Mathlib.Omega.{arith}
 use lib.ListN.{length, getD, set, take, List·getD-append}
 use lib.Seq.{take-append-seam}
 use Rattle.rules.specs.Words.{pick, mapFrom, mapAt, tab}
+use Rattle.rules.specs.Slot.{TaskSet, tasksFrom}
 use Rattle.rules.specs.Writer.{joinedText}
 
 pub mapFrom-long : {A : Type 0} (f : ℕ → A → A) (k : ℕ) (xs : List A) → length (mapFrom f k xs) ≡ length xs
@@ -106,3 +107,16 @@ picked P false x y f g = g refl
 pub cases : (b : Bool) → (b ≡ true) ⊎ (b ≡ false)
 cases true = inl refl
 cases false = inr refl
+
+-- ---- the tasks of a set
+front-kept : (b : Bool) (x : ℕ) (xs ys : List ℕ) → pick b (x ∷ (xs ++ ys)) (xs ++ ys) ≡ pick b (x ∷ xs) xs ++ ys
+front-kept true x xs ys = refl
+front-kept false x xs ys = refl
+
+-- those of one index more
+pub tasks-more : (s : TaskSet) (k n : ℕ) → tasksFrom s k (suc n) ≡ tasksFrom s k n ++ pick (s (k + n)) (suc (k + n) ∷ []) []
+unfolding tasksFrom
+tasks-more s k zero = rw (add-zero k)
+tasks-more s k (suc n) =
+    let e : k + suc n ≡ suc k + n = omega arith in
+    rw (e, tasks-more s (suc k) n) (front-kept (s k) (suc k) (tasksFrom s (suc k) n) _)

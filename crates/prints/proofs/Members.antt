@@ -9,13 +9,14 @@ use lib.Dec.{eqb}
 use Rattle.rules.specs.Words.{bit, sum}
 use Rattle.rules.specs.Limits.{maxTasks}
 use Rattle.rules.specs.Case.{Case}
-use Rattle.rules.specs.Slot.{TaskSet, setNumber}
+use Rattle.rules.specs.Slot.{TaskSet, setNumber, tasksFrom, tasksIn}
 use Rattle.rules.specs.Replay.{ranAt, runningSet}
 use Rattle.rules.specs.Text.{digitsOf}
 use Rattle.rules.specs.Writer.{lineText}
 use Rattle.rules.specs.Report.{spaceByte}
+use Rattle.lists.specs.Lists.{tasks-more}
 use Rattle.puts.specs.Fields.{runningWord}
-use Rattle.prints.specs.Lines.{halved, membersOf, tasksIn, runningLine}
+use Rattle.prints.specs.Lines.{halved, membersOf, runningLine}
 
 bit-small : (b : Bool) → bit b ≤ 1
 bit-small true = omega arith
@@ -63,13 +64,13 @@ module _ (s : TaskSet) where
       ap (λ (n : ℕ). halved i n % 2) (sum-from maxTasks ∙ ap (from 0) e) ∙
       rw (halved-from i (suc (maxTasks - suc i))) (lowest i (maxTasks - suc i))
 
-  pub members-are : (n : ℕ) → n ≤ maxTasks → membersOf (setNumber s) n ≡ tasksIn s n
-  unfolding membersOf tasksIn
-  members-are zero h = refl
-  members-are (suc n) h = rw (members-are n (omega arith), bit-at n h, bit-one (s n))
+  pub members-are : (n : ℕ) → n ≤ maxTasks → membersOf (setNumber s) n ≡ tasksFrom s 0 n
+  unfolding membersOf
+  members-are zero h = unfold tasksFrom in refl
+  members-are (suc n) h = rw (tasks-more s 0 n, members-are n (omega arith), bit-at n h, bit-one (s n), zero-add n)
 
 -- the running line of a slot names the tasks that run in it
 pub running-is : (c : Case) (t : ℕ) → runningLine t (runningSet c t)
-    ≡ lineText spaceByte runningWord (map digitsOf (t ∷ tasksIn (ranAt c t) maxTasks))
-unfolding runningLine
+    ≡ lineText spaceByte runningWord (map digitsOf (t ∷ tasksIn (ranAt c t)))
+unfolding runningLine tasksIn
 running-is c t = rw (members-are (ranAt c t) maxTasks (omega arith))

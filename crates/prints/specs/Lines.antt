@@ -6,7 +6,6 @@ use lib.Dec.{eqb}
 use lib.ListN.{length}
 use Rattle.rules.specs.Words.{pick}
 use Rattle.rules.specs.Limits.{maxTasks}
-use Rattle.rules.specs.Slot.{TaskSet}
 use Rattle.rules.specs.Replay.{Record}
 use Rattle.rules.specs.Text.{digitsOf}
 use Rattle.rules.specs.Policies.{policyName}
@@ -76,8 +75,3 @@ membersOf s (suc n) = membersOf s n ++ memberAt s n
 -- `running`: slot, the tasks that run in it in rising order
 unfoldable pub runningLine : ℕ → ℕ → List ℕ
 runningLine slot set = lineText spaceByte runningWord (map digitsOf (slot ∷ membersOf set maxTasks))
-
--- the tasks of a set, of the first n, in rising order
-unfoldable pub tasksIn : TaskSet → ℕ → List ℕ
-tasksIn s zero = []
-tasksIn s (suc n) = tasksIn s n ++ pick (s n) (suc n ∷ []) []

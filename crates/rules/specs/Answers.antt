@@ -16,6 +16,8 @@ use Rattle.rules.specs.declared.Taken.{Taken}
 use Rattle.rules.specs.declared.Taken.the-variants as Taken·
 use Rattle.rules.specs.declared.Written.{Written}
 use Rattle.rules.specs.declared.Written.the-variants as Written·
+use Rattle.rules.specs.declared.Logged.{Logged}
+use Rattle.rules.specs.declared.Logged.the-variants as Logged·
 
 -- a refusal with its number and place, or the results
 pub data Answer : Type 0 where
@@ -55,3 +57,8 @@ takenAs (Taken·.Read procs policy end tasks releases) = result (procs ∷ polic
 abbrev pub writtenAs : Written → Answer
 writtenAs (Written·.Refused n p) = refusal n p
 writtenAs (Written·.Text length) = result (length ∷ [])
+
+-- the log check: acceptance has no further result
+abbrev pub loggedAs : Logged → Answer
+loggedAs (Logged·.Refused n p) = refusal n p
+loggedAs Logged·.Accepted = result []

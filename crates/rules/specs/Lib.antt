@@ -11,5 +11,6 @@ pub mod Answers
 pub mod Calls
 pub mod Reader
 pub mod Writer
+pub mod Log
 pub mod Report
 pub mod Told

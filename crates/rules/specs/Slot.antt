@@ -1,9 +1,9 @@
 -- One slot, from any state: the six steps of document 01, "What happens at time t, in this order", under each policy, and the sets of
 -- tasks that run, finish, are removed as missed and are demoted in it; also jobs and states, from "The model".
 -- A slot takes the set of tasks released now and not the trace, so a log or a live run can go through the same steps.
-use Prim.Native.Nat.{ℕ, suc, _+_, _*_, _-_, _^_}
+use Prim.Native.Nat.{ℕ, zero, suc, _+_, _*_, _-_, _^_}
 use mathlib.Core.Bool.{Bool, true, false, _&&_, _||_}
-use mathlib.Core.List.{List}
+use mathlib.Core.List.{List, [], _∷_}
 use lib.Dec.{eqb, ltb, leb}
 use lib.ListN.{getD}
 use Rattle.rules.specs.Words.{pick, bit, sum, countIn, mapAt}
@@ -215,3 +215,12 @@ demotedNow g now released r i = demoting (g .policy) && isDemotedNow (jobAt (rea
 -- a set as a number: bit (task − 1) for each task in it
 unfoldable pub setNumber : TaskSet → ℕ
 setNumber s = sum (λ i. bit (s i) * 2 ^ i) 0 maxTasks
+
+-- the tasks of a set among the n from index k on, in rising order
+unfoldable pub tasksFrom : TaskSet → ℕ → ℕ → List ℕ
+tasksFrom s k zero = []
+tasksFrom s k (suc n) = pick (s k) (suc k ∷ tasksFrom s (suc k) n) (tasksFrom s (suc k) n)
+
+-- all its tasks
+unfoldable pub tasksIn : TaskSet → List ℕ
+tasksIn s = tasksFrom s 0 maxTasks

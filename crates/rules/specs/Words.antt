@@ -1,7 +1,7 @@
 -- The words that the rules are written in: a choice, a sum, a count, the first of many, a list by index. Nothing of scheduling.
 -- Document 01 fixes none of them: they are what its sentences are put into. Read them before the other files of rules.
 use Prim.Native.Nat.{ℕ, zero, suc, _+_}
-use mathlib.Core.Bool.{Bool, true, false}
+use mathlib.Core.Bool.{Bool, true, false, _&&_}
 use mathlib.Core.List.{List, [], _∷_}
 
 -- `a` where the test holds, else `b`
@@ -22,6 +22,11 @@ sum f a (suc l) = sum f a l + f (a + l)
 -- how many of a, .., a + l - 1 pass the test
 abbrev pub countIn : (ℕ → Bool) → ℕ → ℕ → ℕ
 countIn p a l = sum (λ t. bit (p t)) a l
+
+-- the test holds of 0, .., n - 1
+unfoldable pub holdsBelow : (ℕ → Bool) → ℕ → Bool
+holdsBelow p zero = true
+holdsBelow p (suc n) = holdsBelow p n && p n
 
 -- the number that is there already, or else `v` where the test holds
 abbrev pub orElse : ℕ → Bool → ℕ → ℕ

@@ -84,6 +84,12 @@ pub enum Written {
     Text { length: usize },
 }
 
+// What the log check answers.
+pub enum Logged {
+    Refused { number: u32, place: u32 },
+    Accepted,
+}
+
 // What the bytes of a field say where a number is wanted.
 pub enum Num {
     Value { value: u32 },

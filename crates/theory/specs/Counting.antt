@@ -12,9 +12,6 @@ use Rattle.rules.specs.Words.{bit, sum, countIn, orElse, firstIn}
 use Rattle.lists.specs.Tests.{never-true, and-left, and-right}
 use Rattle.lists.specs.Sums.{bit-le, sum-mono, sum-cong, sum-add, sum-mul, sum-const, count-cong, count-none, count-there}
 
-pub and-both : (a b : Bool) → a ≡ true → b ≡ true → (a && b) ≡ true
-and-both a b p q = rw (p, q)
-
 -- a test that no two pass
 pub count-one : (p : ℕ → Bool) (a l : ℕ) → ((i j : ℕ) → i < j → j < a + l → p i ≡ true → p j ≡ true → ⊥)
     → countIn p a l ≤ 1

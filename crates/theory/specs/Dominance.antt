@@ -19,8 +19,7 @@ use Rattle.bridge.specs.Steps.{openedJob, judgedJob, lowers}
 use Rattle.bridge.specs.Jobs.{kind-normal, kind-demoted, kept-opened, goes-on, went-on, more-goes-on}
 use Rattle.bridge.specs.Stands.{readyAt, openAt, open-at, next-at}
 use Rattle.bridge.specs.Records.{at-first}
-use Rattle.lists.specs.Tests.{and-left, and-right, or-left}
-use Rattle.theory.specs.Counting.{and-both}
+use Rattle.lists.specs.Tests.{and-left, and-right, and-both, or-left}
 
 -- the job a is there, is normal, has the deadline of b and at least as much left
 pub record Above (a b : Job) : Type 0 where

@@ -20,7 +20,8 @@ use Rattle.bridge.specs.Stands.{state-full, stands, replayOf, replay-state}
 use Rattle.legal.specs.Legal.{Legal}
 use Rattle.lists.specs.Tests.{never-true, and-left, and-right}
 use Rattle.bridge.specs.Records.{released-some, taskAt, good-at, sole}
-use Rattle.theory.specs.Counting.{and-both, count-only}
+use Rattle.lists.specs.Tests.{and-both}
+use Rattle.theory.specs.Counting.{count-only}
 use Rattle.theory.specs.Enough.{From, judged-from, state-from}
 use Rattle.theory.specs.Accept.{lawful, stand-due}
 use Rattle.theory.specs.Verdicts.{missed-says, open-says}

@@ -17,11 +17,11 @@ use Rattle.rules.specs.Slot.{Setup, jobAt, isPresent, isDemoted, kind, dueOf, i
 use Rattle.rules.specs.Slot.{chosen}
 use Rattle.lists.specs.Sums.{count-lt}
 use Rattle.bridge.specs.Jobs.{kind-normal, kind-demoted}
-use Rattle.lists.specs.Tests.{and-left, and-right}
-use Rattle.theory.specs.Counting.{and-both, ranked}
+use Rattle.lists.specs.Tests.{and-left, and-right, and-both}
+use Rattle.theory.specs.Counting.{ranked}
 
 -- ---- one key of the order
-turn-cases : (a b : ℕ) (x : Bool) → inTurn a b x ≡ true → (a < b) ⊎ ((a ≡ b) × (x ≡ true))
+pub turn-cases : (a b : ℕ) (x : Bool) → inTurn a b x ≡ true → (a < b) ⊎ ((a ≡ b) × (x ≡ true))
 turn-cases a b x = go (ltb a b) (eqb a b) x refl refl
   where
     go : (l e x : Bool) → ltb a b ≡ l → eqb a b ≡ e → (l || (e && x)) ≡ true → (a < b) ⊎ ((a ≡ b) × (x ≡ true))
@@ -29,10 +29,10 @@ turn-cases a b x = go (ltb a b) (eqb a b) x refl refl
     go false true x p q h = inr (eqb-true a b q, h)
     go false false x p q h = absurd (false≢true h)
 
-turn-less : (a b : ℕ) (x : Bool) → a < b → inTurn a b x ≡ true
+pub turn-less : (a b : ℕ) (x : Bool) → a < b → inTurn a b x ≡ true
 turn-less a b x h = rw (lt-ltb a b h)
 
-turn-same : (a b : ℕ) (x : Bool) → a ≡ b → x ≡ true → inTurn a b x ≡ true
+pub turn-same : (a b : ℕ) (x : Bool) → a ≡ b → x ≡ true → inTurn a b x ≡ true
 turn-same a b x e h = rw (eq-eqb a b e, h) (go (ltb a b))
   where
     go : (l : Bool) → (l || true) ≡ true
@@ -74,7 +74,7 @@ before-trans p now a b c i j k x y =
     later : i < j → j < k → ltb i k ≡ true
     later u v = lt-ltb i k (omega arith)
 
-before-total : (p now : ℕ) (a b : Job) (i j : ℕ) → i < j → isPresent a ≡ true → isPresent b ≡ true
+pub before-total : (p now : ℕ) (a b : Job) (i j : ℕ) → i < j → isPresent a ≡ true → isPresent b ≡ true
     → (jobBefore p now a i b j ≡ true) ⊎ (jobBefore p now b j a i ≡ true)
 unfolding jobBefore
 before-total p now a b i j h x y =
