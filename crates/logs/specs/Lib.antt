@@ -1,0 +1,14 @@
+pub mod Rule
+pub mod Follow
+pub mod OwnSets
+pub mod LogDemand
+pub mod LowerFirst
+pub mod Named
+pub mod SlotLine
+pub mod LogLines
+pub mod Clear
+pub mod Exact
+pub mod Accepts
+pub mod Why
+pub mod Broken
+pub mod LogInstances
