@@ -1,0 +1,248 @@
+-- One byte more of a line: the steps of `scanByte` and `lineEnd` (feeds, LineScan) as the code takes them, and the set as it stands in an
+-- array.
+use mathlib.Core.Path.{_≡_, refl, sym, ap, _∙_, fun-ext}
+use mathlib.Core.Bool.{Bool, true, false, _&&_, _||_, not, or-true, or-false, and-false, true≢false}
+use mathlib.Core.List.{List, [], _∷_}
+use Prim.Native.Nat.{ℕ, zero, suc, _+_, _*_, _-_, _^_, _≤_, _<_}
+use native.Mathlib.Nat.{pow-le-pow-right}
+use native.Mathlib.Numerals.{add-one}
+use native.Mathlib.Decide.{decLt}
+use native.Mathlib.Omega.{arith}
+use lib.Dec.{eqb, leb, ltb}
+use lib.ListN.{length, getD, set, drop}
+use lib.Seq.{getD-set-same}
+use borrow.Author.Needs.{read-below, read-above}
+use borrow.Author.Tests.{eq-eqb, ne-eqb, le-leb, lt-ltb, le-ltb, leb-true}
+use Rattle.rules.specs.declared.Num.the-variants as Num·
+use Rattle.rules.specs.Words.{pick, tab}
+use Rattle.rules.specs.Limits.{maxTasks}
+use Rattle.rules.specs.Slot.{TaskSet}
+use Rattle.rules.specs.Text.{tabByte, isDigit}
+use Rattle.rules.specs.Log.{slotWord, setNamed}
+use Rattle.lists.specs.Tests.{and-left, and-right}
+use Rattle.feeds.specs.NumScan.{NumScan, numBad, numSoFar, fits, numByte, numEnd}
+use Rattle.feeds.specs.LineScan.{LineScan, unread, wrong, inWord, inTime, inTask, isName, withName, timeAt, taskAt, afterTime, afterTask}
+use Rattle.feeds.specs.LineScan.{wordTab, wordByte, scanByte, Heard, heardBad, heard, heardTime, heardTask, lineEnd, atStart}
+use Rattle.feeds.specs.Bounds.{NumSmall, LineSmall}
+use Rattle.heard.specs.declared.Ended.{Ended}
+use Rattle.heard.specs.declared.Ended.the-variants as Ended·
+use Rattle.heard.specs.declared.Scan.{Scan}
+use Rattle.heard.specs.declared.Scan.the-variants as Scan·
+use Rattle.heard.specs.Scans.{members, wordAt, scanAs, endedAs}
+
+-- ---- the set
+never-in : (n k i : ℕ) → getD (tab (λ j. false) k n) i false ≡ false
+unfolding tab
+never-in zero k i = refl
+never-in (suc n) k zero = refl
+never-in (suc n) k (suc i) = never-in n (suc k) i
+
+-- nobody is in an array without a mark
+pub none-in : members (tab (λ j. false) 0 maxTasks) ≡ setNamed []
+unfolding setNamed
+none-in = fun-ext (λ i. never-in maxTasks 0 i)
+
+-- a task's mark
+pub one-more : (xs : List Bool) (v : ℕ) → length xs ≡ maxTasks → isName v ≡ true → members (set xs (v - 1) true)
+    ≡ withName (members xs) v
+one-more xs v l e = fun-ext (λ i. at i (decLt i (v - 1)) (decLt (v - 1) i))
+  where
+    low : 1 ≤ v
+    low = leb-true 1 v (and-left (leb 1 v) _ e)
+
+    high : v ≤ maxTasks
+    high = leb-true v maxTasks (and-right (leb 1 v) _ e)
+
+    other : (i : ℕ) → (v ≡ suc i → ⊥) → getD xs i false ≡ withName (members xs) v i
+    other i h = rw (ne-eqb v (suc i) h) (sym (or-false (getD xs i false)))
+
+    at : (i : ℕ) → Dec (i < v - 1) → Dec (v - 1 < i) → getD (set xs (v - 1) true) i false ≡ withName (members xs) v i
+    at i (yes p) q = read-below Bool xs (v - 1) i true false _ p refl ∙ other i (λ z. omega arith)
+    at i (no p) (yes q) = read-above Bool xs (v - 1) i true false _ q refl ∙ other i (λ z. omega arith)
+    at i (no p) (no q) =
+        let w = low in
+        let h = high in
+        let z : v - 1 ≡ i = omega arith in
+        let y : v ≡ suc i = omega arith in
+        let s : i < maxTasks = omega arith in
+        rw (z, eq-eqb v (suc i) y, lt-ltb i maxTasks s)
+        (getD-set-same xs i true false (omega (arith, l)) ∙ sym (or-true (getD xs i false)))
+
+-- a number that is no task marks nobody
+pub none-more : (xs : List Bool) (v : ℕ) → isName v ≡ false → members xs ≡ withName (members xs) v
+none-more xs v e = fun-ext (λ i. at i (decLt i maxTasks))
+  where
+    at : (i : ℕ) → Dec (i < maxTasks) → getD xs i false ≡ withName (members xs) v i
+    at i (yes p) = rw (ne-eqb v (suc i) (λ z. named i p z)) (sym (or-false (getD xs i false)))
+      where
+        named : (i : ℕ) → i < maxTasks → v ≡ suc i → ⊥
+        named i p z =
+            true≢false (rw (le-leb 1 v (omega arith), le-leb v maxTasks (omega arith)) at e)
+    at i (no p) = rw (le-ltb i maxTasks (omega arith), and-false (eqb v (suc i))) (sym (or-false (getD xs i false)))
+
+pub name-bounds : (v : ℕ) → isName v ≡ true → (1 ≤ v) × (v ≤ maxTasks)
+name-bounds v e = (leb-true 1 v (and-left (leb 1 v) _ e), leb-true v maxTasks (and-right (leb 1 v) _ e))
+
+-- ---- fields that end
+-- the next task is awaited, of which `low` is the least that rises
+abbrev pub nextTask : ℕ → Heard → LineScan
+nextTask low heardBad = wrong
+nextTask low (heard t rises names set) = inTask t low rises names set 0 0
+
+pub time-next : (k v : ℕ) → afterTime (numEnd (numSoFar k v)) ≡ nextTask 0 (heardTime (numEnd (numSoFar k v)))
+unfolding numEnd
+time-next zero v = refl
+time-next (suc k) v = refl
+
+pub task-next : (t low : ℕ) (rises names : Bool) (s : TaskSet) (k v : ℕ)
+    → afterTask t low rises names s (numEnd (numSoFar k v)) ≡ nextTask (suc v) (heardTask t low rises names s (numEnd (numSoFar k v)))
+unfolding numEnd
+task-next t low rises names s zero v = refl
+task-next t low rises names s (suc k) v = refl
+
+-- what a field says at its end, and the state behind the tab
+module _ (x : Ended) (xs : List Bool) where
+  pub after-bad : (t low : ℕ) (rises names : Bool) (s : TaskSet) (k v : ℕ) → x ≡ Ended·.Bad
+      → endedAs x xs ≡ heardTask t low rises names s (numEnd (numSoFar k v)) → wrong
+      ≡ afterTask t low rises names s (numEnd (numSoFar k v))
+  after-bad t low rises names s k v q e =
+      ap (nextTask (suc v)) (rw q at e) ∙ sym (task-next t low rises names s k v)
+
+  pub after-slot : (t low : ℕ) (rises names : Bool) (s : TaskSet) (k v u : ℕ) (r n : Bool) → x ≡ Ended·.Slot u r n
+      → endedAs x xs ≡ heardTask t low rises names s (numEnd (numSoFar k v))
+      → inTask u (v + 1) r n (members xs) 0 0 ≡ afterTask t low rises names s (numEnd (numSoFar k v))
+  after-slot t low rises names s k v u r n q e =
+      rw (add-one v) (ap (nextTask (suc v)) (rw q at e) ∙ sym (task-next t low rises names s k v))
+
+  pub first-bad : (k v b : ℕ) → b ≡ tabByte → x ≡ Ended·.Bad → endedAs x xs ≡ heardTime (numEnd (numSoFar k v))
+      → wrong ≡ scanByte (inTime k v) b
+  unfolding scanByte
+  first-bad k v b z q e = rw z (ap (nextTask 0) (rw q at e) ∙ sym (time-next k v))
+
+  pub first-slot : (k v b u : ℕ) (r n : Bool) → b ≡ tabByte → x ≡ Ended·.Slot u r n
+      → endedAs x xs ≡ heardTime (numEnd (numSoFar k v)) → inTask u 0 r n (members xs) 0 0 ≡ scanByte (inTime k v) b
+  unfolding scanByte
+  first-slot k v b u r n z q e = rw z (ap (nextTask 0) (rw q at e) ∙ sym (time-next k v))
+
+pub task-tab : (t low : ℕ) (rises names : Bool) (s : TaskSet) (k v b : ℕ) → b ≡ tabByte
+    → afterTask t low rises names s (numEnd (numSoFar k v)) ≡ scanByte (inTask t low rises names s k v) b
+unfolding scanByte
+task-tab t low rises names s k v b z = rw z
+
+-- ---- fields that go on
+pub time-on : (k v b : ℕ) → (b ≡ tabByte → ⊥) → fits k v b ≡ true → inTime (k + 1) (v * 10 + (b - 48))
+    ≡ scanByte (inTime k v) b
+unfolding scanByte numByte
+time-on k v b h e = rw (ne-eqb b tabByte h, e, add-one k)
+
+pub time-wrong : (k v b : ℕ) → (b ≡ tabByte → ⊥) → fits k v b ≡ false → wrong ≡ scanByte (inTime k v) b
+unfolding scanByte numByte
+time-wrong k v b h e = rw (ne-eqb b tabByte h, e)
+
+module _ (t low : ℕ) (rises names : Bool) (s : TaskSet) (k v b : ℕ) where
+  pub task-on : (b ≡ tabByte → ⊥) → fits k v b ≡ true
+      → inTask t low rises names s (k + 1) (v * 10 + (b - 48)) ≡ scanByte (inTask t low rises names s k v) b
+  unfolding scanByte numByte
+  task-on h e = rw (ne-eqb b tabByte h, e, add-one k)
+
+  pub task-wrong : (b ≡ tabByte → ⊥) → fits k v b ≡ false → wrong ≡ scanByte (inTask t low rises names s k v) b
+  unfolding scanByte numByte
+  task-wrong h e = rw (ne-eqb b tabByte h, e)
+
+-- ---- numbers
+pub num-none : (k v : ℕ) → k ≡ 0 → numEnd (numSoFar k v) ≡ Num·.Bad
+unfolding numEnd
+num-none zero v e = refl
+num-none (suc k) v e = absurd (omega arith)
+
+pub num-some : (k v : ℕ) → (k ≡ 0 → ⊥) → numEnd (numSoFar k v) ≡ Num·.Value v
+unfolding numEnd
+num-some zero v h = absurd (h refl)
+num-some (suc k) v h = refl
+
+-- what fits is a digit, and there are at most eight before it
+pub fits-digit : (k v b : ℕ) → fits k v b ≡ true → (48 ≤ b) × (k ≤ 8)
+fits-digit k v b e =
+    let a = and-left (isDigit b && leb k 8) _ e in
+    (leb-true 48 b (and-left (leb 48 b) _ (and-left (isDigit b) (leb k 8) a)), leb-true k 8 (and-right (isDigit b) (leb k 8) a))
+
+pub small-worth : (k v : ℕ) → NumSmall (numSoFar k v) → k ≤ 8 → v < 10 ^ 8
+small-worth k v h l = omega (arith, h .1, pow-le-pow-right {n = 10} (omega arith) {i = k} {j = 8} l)
+
+pub small-value : (k v : ℕ) → NumSmall (numSoFar k v) → v < 10 ^ 9
+small-value k v h = omega (arith, h .1, pow-le-pow-right {n = 10} (omega arith) {i = k} {j = 9} (h .0))
+
+-- the number so far of a small line is small
+pub small-task : (x : Scan) (xs : List Bool) (t low : ℕ) (rises names : Bool) (k v : ℕ) → x ≡ Scan·.Task t low rises names k v
+    → LineSmall (scanAs x xs) → NumSmall (numSoFar k v)
+small-task x xs t low rises names k v e h = let w = rw e at h in w .2
+
+-- ---- the word
+word-step : (k b : ℕ) → scanByte (wordAt k) b ≡ pick (eqb b tabByte) (wordTab (drop k slotWord)) (wordByte (drop k slotWord) b)
+unfolding scanByte
+word-step zero b = refl
+word-step (suc k) b = refl
+
+-- behind its four letters nothing is left
+word-over : (k : ℕ) → 4 ≤ k → drop k slotWord ≡ []
+word-over zero h = absurd (omega arith)
+word-over (suc zero) h = absurd (omega arith)
+word-over (suc (suc zero)) h = absurd (omega arith)
+word-over (suc (suc (suc zero))) h = absurd (omega arith)
+word-over (suc (suc (suc (suc k)))) h = none k
+  where
+    none : (k : ℕ) → drop {A = ℕ} k [] ≡ []
+    none zero = refl
+    none (suc k) = refl
+
+pub word-tab-here : (k b : ℕ) → 4 ≤ k → b ≡ tabByte → scanByte (wordAt k) b ≡ inTime 0 0
+word-tab-here k b h q = word-step k b ∙ rw (word-over k h, q)
+
+pub word-too-long : (k b : ℕ) → 4 ≤ k → (b ≡ tabByte → ⊥) → scanByte (wordAt k) b ≡ wrong
+word-too-long k b h q = word-step k b ∙ rw (word-over k h, ne-eqb b tabByte q)
+
+-- no byte of it was read, or it has no end within it
+pub word-start : (k : ℕ) → eqb k 0 ≡ atStart (wordAt k)
+word-start zero = refl
+word-start (suc k) = ne-eqb (suc k) 0 (λ e. omega arith)
+
+pub word-ended : (k : ℕ) → heardBad ≡ lineEnd (wordAt k)
+unfolding lineEnd
+word-ended zero = refl
+word-ended (suc k) = refl
+
+pub time-ended : (k v : ℕ) → heardTime (numEnd (numSoFar k v)) ≡ lineEnd (inTime k v)
+unfolding lineEnd
+time-ended k v = refl
+
+pub task-ended : (t low : ℕ) (rises names : Bool) (s : TaskSet) (k v : ℕ)
+    → heardTask t low rises names s (numEnd (numSoFar k v)) ≡ lineEnd (inTask t low rises names s k v)
+unfolding lineEnd
+task-ended t low rises names s k v = refl
+
+-- a tab or not, it is wrong
+either : (e : Bool) {x : LineScan} → x ≡ wrong → pick e wrong x ≡ wrong
+either true q = refl
+either false q = q
+
+-- the four letters, one by one
+pub word-on : (k b : ℕ) → k < 4 → b ≡ getD slotWord k 0 → scanByte (wordAt k) b ≡ wordAt (k + 1)
+word-on zero b l e = rw e (word-step 0 _)
+word-on (suc zero) b l e = rw e (word-step 1 _)
+word-on (suc (suc zero)) b l e = rw e (word-step 2 _)
+word-on (suc (suc (suc zero))) b l e = rw e (word-step 3 _)
+word-on (suc (suc (suc (suc k)))) b l e = absurd (omega arith)
+
+pub word-other : (k b : ℕ) → k < 4 → (b ≡ getD slotWord k 0 → ⊥) → scanByte (wordAt k) b ≡ wrong
+word-other zero b l h = word-step 0 b ∙ either (eqb b tabByte) (rw (ne-eqb b 115 h))
+word-other (suc zero) b l h = word-step 1 b ∙ either (eqb b tabByte) (rw (ne-eqb b 108 h))
+word-other (suc (suc zero)) b l h = word-step 2 b ∙ either (eqb b tabByte) (rw (ne-eqb b 111 h))
+word-other (suc (suc (suc zero))) b l h = word-step 3 b ∙ either (eqb b tabByte) (rw (ne-eqb b 116 h))
+word-other (suc (suc (suc (suc k)))) b l h = absurd (omega arith)
+
+pub last-letter : (k : ℕ) → k < 4 → (k ≡ 0 → ⊥) → (k ≡ 1 → ⊥) → (k ≡ 2 → ⊥) → 116 ≡ getD slotWord k 0
+last-letter zero l a b d = absurd (a refl)
+last-letter (suc zero) l a b d = absurd (b refl)
+last-letter (suc (suc zero)) l a b d = absurd (d refl)
+last-letter (suc (suc (suc zero))) l a b d = refl
+last-letter (suc (suc (suc (suc k)))) l a b d = absurd (omega arith)
