@@ -1,46 +1,42 @@
 -- The loop over the slots, apart from the code: what one slot more gives, and how the records go on with it.
 use mathlib.Core.Path.{_≡_, refl, ap, sym, _∙_}
-use mathlib.Core.Bool.{Bool, true, false, _&&_, false≢true}
+use mathlib.Core.Bool.{Bool, true, false, _&&_}
 use mathlib.Core.List.{List, _++_}
 use Prim.Native.Nat.{ℕ, suc, _+_, _-_, _*_, min, _≤_, _<_}
 use native.Mathlib.Numerals.{add-one}
-use native.Mathlib.Decide.{decLt}
 use native.Mathlib.Omega.{arith}
 use lib.Dec.{leb}
-use lib.ListN.{length, getD, drop, length-append, List·getD-eq-default}
+use lib.ListN.{length, drop, length-append}
 use lib.Seq.{drop-at}
 use borrow.Author.Tests.{lt-leb}
 use Rattle.rules.specs.declared.Run.{Run}
 use Rattle.rules.specs.Words.{tab, firstIn}
 use Rattle.rules.specs.Limits.{maxTasks, recordWidth}
-use Rattle.rules.specs.Case.{Case, taskCount, deadline, releaseCount, timeOf}
+use Rattle.rules.specs.Case.{Case, deadline, releaseCount, timeOf}
 use Rattle.rules.specs.Policies.{demoting}
-use Rattle.rules.specs.Slot.{TaskSet, Setup, jobAt, isMissed, isDemotedNow, judged, joinedTask, joined, readied, demoted, lowered, opened}
+use Rattle.rules.specs.Slot.{TaskSet, Setup, jobAt, isMissed, isDemotedNow, readied, demoted, lowered, opened}
 use Rattle.rules.specs.Slot.{after, ran, finished, missed, demotedNow, jobsNow}
-use Rattle.rules.specs.Replay.{setupIn, releasedIn, releasedAt, fresh, stateFrom, stateAt, ranAt, finishedAt, missedAt, demotedAt, slotsBy}
+use Rattle.rules.specs.Replay.{setupIn, releasedAt, fresh, stateFrom, stateAt, ranAt, finishedAt, missedAt, demotedAt, slotsBy}
 use Rattle.rules.specs.Replay.{finishBy, demotionBy, verdictBy, recordBy, numbers}
-use Rattle.lists.specs.Lists.{mapFrom-cong, tab-long, tab-at, tab-cong}
-use Rattle.bridge.specs.Steps.{Full, judged-full}
+use Rattle.lists.specs.Lists.{tab-long, tab-at, tab-cong}
+use Rattle.bridge.specs.Steps.{Full}
 use Rattle.bridge.specs.Stands.{state-full, state-next}
 use Rattle.legal.specs.Legal.{Legal}
-use Rattle.bridge.specs.Records.{released-named, taskAt, good-at, at-first}
+use Rattle.bridge.specs.Records.{taskAt, good-at, at-first}
 use Rattle.bridge.specs.Turn.{lastPlace, Reached}
 use Rattle.bridge.specs.Events.{turn-event}
 use Rattle.bridge.specs.Notes.{numbers-long, noteTo, Handed, noted-all}
-use Rattle.counts.specs.Needs.{Counts}
-use Rattle.slot.specs.Needed.{Needed}
 use Rattle.slot.specs.Stepped.{Stepped, members}
 use Rattle.notes.specs.Noted.{Roomy, openRecord}
-use Rattle.engine.specs.Walks.{Orderly, places, releases, Rests, LastRan, roomAt}
+use Rattle.traces.specs.Traces.{releases}
+use Rattle.traces.specs.Given.{readied-same, rel-at}
+use Rattle.engine.specs.Walks.{places, Rests, LastRan, roomAt}
 use Rattle.engine.proofs.Quiet.{Walking, none-left, still-walking, still-ran, still-records}
 
 -- after the slot at t: how the walk stands, and the set that ran
 pub record Turned (c : Case) (t : ℕ) (run : Run) (place : List ℕ) (next jobs : ℕ) (rs : List Bool) : Type 0 where
   pub walks : Walking c (suc t) run place next jobs
   pub ran : rs ≡ tab (ranAt c t) 0 maxTasks
-
-pub orderly : (c : Case) → Legal c → Orderly (c .trace)
-orderly c g = record { named = λ j h. (g .named j h .0, omega (arith, g .named j h .1, g .tasks-few)); sorted = g .in-order }
 
 -- ---- before the first slot
 pub walking-none : (c : Case) (run : Run) → run ≡ fresh → Walking c 0 run (tab (λ i. 0) 0 maxTasks) 0 0
@@ -63,15 +59,12 @@ last-ran c t rs h k e = let z : t ≡ k = omega (arith, e) in rw (← z) h
 -- ---- one slot
 -- a slot goes by its set's members below 32 only
 module _ (g : Setup) (now : ℕ) (s u : TaskSet) (r : Run) (f : Full r) (h : (i : ℕ) → i < maxTasks → s i ≡ u i) where
-  readied-same : readied g now s r ≡ readied g now u r
-  unfolding joined
-  readied-same =
-      ap (λ l. record { tasks = l }) (mapFrom-cong (joinedTask g now s) (joinedTask g now u) 0 (judged now r .tasks)
-      (λ i t p q. rw (h i (omega (arith, judged-full now r f)))))
+  readied-here : readied g now s r ≡ readied g now u r
+  readied-here = readied-same g now s u r f h
 
   opened-same : opened g now s r ≡ opened g now u r
   unfolding opened
-  opened-same = ap (λ (x : Run). lowered g (demoted g x)) readied-same
+  opened-same = ap (λ (x : Run). lowered g (demoted g x)) readied-here
 
   after-same : after g now s r ≡ after g now u r
   unfolding after
@@ -87,14 +80,14 @@ module _ (g : Setup) (now : ℕ) (s u : TaskSet) (r : Run) (f : Full r) (h : (i 
 
   demoted-same : (i : ℕ) → demotedNow g now s r i ≡ demotedNow g now u r i
   unfolding demotedNow
-  demoted-same i = ap (λ (x : Run). demoting (g .policy) && isDemotedNow (jobAt x i)) readied-same
+  demoted-same i = ap (λ (x : Run). demoting (g .policy) && isDemotedNow (jobAt x i)) readied-here
 
   stepped-same : (run : Run) (n : ℕ) (ms ds rs fs ls : List Bool) → Stepped g now s r run n ms ds rs fs ls
       → Stepped g now u r run n ms ds rs fs ls
   unfolding missed
   stepped-same run n ms ds rs fs ls q = record {
     run = q .run ∙ after-same;
-    jobs = q .jobs ∙ ap (λ (x : Run). jobsNow (demoted g x)) readied-same;
+    jobs = q .jobs ∙ ap (λ (x : Run). jobsNow (demoted g x)) readied-here;
     missed = q .missed;
     demoted = q .demoted ∙ tab-cong _ _ 0 maxTasks (λ i x y. demoted-same i);
     ran = q .ran ∙ tab-cong _ _ 0 maxTasks (λ i x y. ran-same i);
@@ -102,36 +95,13 @@ module _ (g : Setup) (now : ℕ) (s u : TaskSet) (r : Run) (f : Full r) (h : (i 
     missed-next = q .missed-next;
   }
 
-module _ (c : Case) (g : Legal c) (clock : ℕ) (more : clock < c .end) (rel : List Bool)
-    (re : rel ≡ releases (c .trace) (releaseCount (c .trace)) clock) where
-  rel-at : (i : ℕ) → i < maxTasks → getD rel i false ≡ releasedAt c clock i
-  rel-at i h = rw re (tab-at (releasedIn (c .trace) (releaseCount (c .trace)) clock) maxTasks i false h)
-
-  -- what the slot is asked for is there
-  in-table : (i : ℕ) → getD rel i false ≡ true → i < taskCount (c .table)
-  in-table i e = go (decLt i maxTasks)
-    where
-      go : Dec (i < maxTasks) → i < taskCount (c .table)
-      go (yes h) = released-named c g clock i (sym (rel-at i h) ∙ e)
-      go (no h) =
-          let long : length rel ≡ maxTasks = rw re (tab-long (releasedIn (c .trace) (releaseCount (c .trace)) clock) 0 maxTasks) in
-          absurd (false≢true (sym (List·getD-eq-default rel false {n = i} (omega arith)) ∙ e))
-
-  pub needed : (counts : List ℕ) → Counts (c .procs) (c .table) counts → Needed (setupIn c) clock counts rel
-  needed counts q = record {
-    some = g .procs-some;
-    early = omega (arith, g .end-small);
-    startable = λ i e. (let m = g .good i (in-table i e) in
-        record { inside = omega (arith, in-table i e); short = omega (arith, m .within, m .small) });
-    counted = λ i e. q i (in-table i e);
-  }
-
+module _ (c : Case) (clock : ℕ) (rel : List Bool) (re : rel ≡ releases (c .trace) (releaseCount (c .trace)) clock) where
   module _ (run : Run) (e : run ≡ stateAt c clock) (run′ : Run) (jobs : ℕ) (ms ds rs fs ls : List Bool)
       (q : Stepped (setupIn c) clock (members rel) run run′ jobs ms ds rs fs ls) where
     -- it is the slot of the case
     same-step : Stepped (setupIn c) clock (releasedAt c clock) (stateAt c clock) run′ jobs ms ds rs fs ls
     same-step = stepped-same (setupIn c) clock (members rel) (releasedAt c clock) (stateAt c clock)
-        (state-full c clock) rel-at run′ jobs ms ds rs fs ls (rw e at q)
+        (state-full c clock) (rel-at c clock rel re) run′ jobs ms ds rs fs ls (rw e at q)
 
     next-run : run′ ≡ stateAt c (suc clock)
     next-run = same-step .run ∙ sym (state-next c clock)

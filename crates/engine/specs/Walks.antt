@@ -1,28 +1,19 @@
--- What the engine's own functions ask and say, beside the definitions of "What happens at time t": a trace that can be walked through,
--- which tasks were released and where, a slot that rests, the set that ran last, and the records in the lent room before a time.
+-- What the engine's own functions ask and say, beside the definitions of "What happens at time t": where each task was released last, a
+-- slot that rests, the set that ran last, and the records in the lent room before a time.
 use mathlib.Core.Path.{_≡_}
 use mathlib.Core.Bool.{Bool}
 use mathlib.Core.List.{List, _++_}
-use Prim.Native.Nat.{ℕ, suc, _*_, _≤_, _<_}
+use Prim.Native.Nat.{ℕ, suc, _*_, _<_}
 use lib.ListN.{drop}
 use Rattle.rules.specs.Words.{tab}
 use Rattle.rules.specs.Limits.{maxTasks, recordWidth}
-use Rattle.rules.specs.Case.{Case, releaseCount, timeOf, nameOf}
-use Rattle.rules.specs.Replay.{releasedIn, ranAt, recordBy, numbers}
+use Rattle.rules.specs.Case.{Case, releaseCount, timeOf}
+use Rattle.rules.specs.Replay.{ranAt, recordBy, numbers}
 use Rattle.bridge.specs.Turn.{lastPlace}
-
--- a trace in order whose names are task numbers
-pub record Orderly (rs : List ℕ) : Type 0 where
-  pub named : (j : ℕ) → j < releaseCount rs → (1 ≤ nameOf rs j) × (nameOf rs j ≤ maxTasks)
-  pub sorted : (j k : ℕ) → j ≤ k → k < releaseCount rs → timeOf rs j ≤ timeOf rs k
 
 -- the place of each task's last release among the first k
 abbrev pub places : List ℕ → ℕ → List ℕ
 places rs k = tab (λ i. lastPlace rs k (suc i)) 0 maxTasks
-
--- which tasks the first k releases release at t
-abbrev pub releases : List ℕ → ℕ → ℕ → List Bool
-releases rs k t = tab (releasedIn rs k t) 0 maxTasks
 
 -- the slot at t has nothing to do: every task is idle, and the next release is not of this time
 pub record Rests (rs : List ℕ) (next jobs t : ℕ) : Type 0 where

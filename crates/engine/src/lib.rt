@@ -11,7 +11,8 @@ ghost use Rattle.rules.specs.Slot.{setNumber};
 ghost use Rattle.rules.specs.Replay.{fresh};
 ghost use Rattle.counts.specs.Needs.{Counts};
 ghost use Rattle.bridge.specs.Turn.{Reached};
-ghost use Rattle.engine.specs.Walks.{Orderly, places, releases, Rests, roomAt, LastRan};
+ghost use Rattle.traces.specs.Traces.{Orderly, releases};
+ghost use Rattle.engine.specs.Walks.{places, Rests, roomAt, LastRan};
 use rules::MAX_TASKS;
 use rules::Replayed;
 use rules::Run;
@@ -19,8 +20,24 @@ use rules::Running;
 
 // ---- the trace
 
+// The place of each task's last release, kept on over the releases from one place to another.
+fn keep_places(trace: &[u32], from: usize, next: usize, place: &mut [usize; MAX_TASKS])
+    requires { ⌜ Orderly (now trace) ⌝ }
+    requires { ⌜ from ≤ next ⌝ }
+    requires { ⌜ next ≤ releaseCount (now trace) ⌝ }
+    requires { ⌜ now place ≡ places (now trace) from ⌝ }
+    ensures { λ r. ⌜ now (place .exit) ≡ places (now (trace .entry)) next ⌝ }
+{
+    let mut k = from;
+    while k < next {
+        let i = cases::name_of(trace, k) as usize - 1;
+        place[i] = k;
+        k += 1;
+    }
+}
+
 // The releases of one time: the first that comes later, with the tasks that are released and the place of each task's last release.
-fn take_releases(
+fn pass_releases(
     trace: &[u32],
     from: usize,
     clock: u32,
@@ -33,20 +50,9 @@ fn take_releases(
     ensures { λ next. ⌜ Reached (now (trace .entry)) next (suc clock) × (now (place .exit) ≡ places (now (trace .entry)) next)
         × (now (released .exit) ≡ releases (now (trace .entry)) (releaseCount (now (trace .entry))) clock) ⌝ }
 {
-    *released = [false; MAX_TASKS];
-    let n = cases::release_count(trace);
-    let mut k = from;
-    while k < n {
-        if cases::time_of(trace, k) == clock {
-            let i = cases::name_of(trace, k) as usize - 1;
-            released[i] = true;
-            place[i] = k;
-            k += 1;
-        } else {
-            return k;
-        }
-    }
-    k
+    let next = traces::take_releases(trace, from, clock, released);
+    keep_places(trace, from, next, place);
+    next
 }
 
 // Whether the slot at `clock` has nothing to do, so that it can be passed over: the last slot had no job, and no release comes now.
@@ -103,7 +109,7 @@ fn walk(
             let mut demoted = [false; MAX_TASKS];
             let mut finished = [false; MAX_TASKS];
             let mut missed_next = [false; MAX_TASKS];
-            next = take_releases(trace, next, clock, &mut place, &mut released);
+            next = pass_releases(trace, next, clock, &mut place, &mut released);
             run = slot::step(
                 run,
                 procs,

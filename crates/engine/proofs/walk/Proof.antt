@@ -8,7 +8,8 @@ use native.Mathlib.Omega.{arith}
 use Rattle.rules.specs.Words.{tab}
 use Rattle.rules.specs.Case.{caseOf}
 use Rattle.legal.specs.Legal.{legal}
-use Rattle.engine.proofs.Going.{orderly, needed, turned, handed, roomy, room-next}
+use Rattle.traces.specs.Given.{orderly, needed}
+use Rattle.engine.proofs.Going.{turned, handed, roomy, room-next}
 use Rattle.engine.proofs.Going.{Going, walking-none, last-none, noted-here, going-more, going-on}
 use Rattle.engine.proofs.walk.Statement.{statement}
 use Rattle.engine.proofs.walk.Tie as tie
@@ -32,15 +33,15 @@ loop-holds c =
 rests-requires : tie.Need-rests-requires Inv-loop μ-loop
 rests-requires c κs = search needs
 
-take-releases-requires : tie.Need-take-releases-requires Inv-loop μ-loop
-take-releases-requires c κs =
+pass-releases-requires : tie.Need-pass-releases-requires Inv-loop μ-loop
+pass-releases-requires c κs =
     let start = c .before .before .before .before .before .before .before .before .before in
     let v = c .before .before .before .before .before .loop .inv in
     (orderly _ (legal _ (start .pre .0)), (v .walks .reached, v .walks .at-place))
 
 step-requires : tie.Need-step-requires Inv-loop μ-loop
 step-requires c κs =
-    let released = c .before .before .before .before .before .before .before .before .take-releases in
+    let released = c .before .before .before .before .before .before .before .before .pass-releases in
     let loop-test = c .before .before .before .before .before .before .before .before .before .before .before .before .before .loop-test in
     let q =
     c .before .before .before .before .before .before .before .before .before .before .before .before .before .before .before .before
@@ -60,8 +61,8 @@ note-slot-requires c κs =
     let g = legal _ (q .0) in
     let v = at-loop .loop .inv in
     let more : at-loop .loop .clock < at-loop .before .before .before .before .args .end = omega (arith, loop-test .taken, q .1 .1 .1 .0) in
-    let a = at-releases .take-releases .ensures in
-    let h = handed _ g _ more _ (a .2) _ (v .walks .at-run) _ _ _ _ _ _ _ (at-step .step .ensures) _ _ (a .1) in
+    let a = at-releases .pass-releases .ensures in
+    let h = handed _ _ _ (a .2) _ (v .walks .at-run) _ _ _ _ _ _ _ (at-step .step .ensures) _ _ (a .1) in
     let noted = noted-here _ _ _ _ _ _ _ _ _ _ _ v (if2 .taken) in
     (roomy _ g _ _ noted _ (a .0) _ _ _ _ h, omega (arith, more, g .end-small))
 
@@ -74,25 +75,22 @@ loop-less c = search needs
 loop-again : tie.Need-loop-again Inv-loop μ-loop
 unfolding tab
 loop-again c =
-    let start = c .before .before .before .before .before .before .before in
-    let looped = c .before .before .before .loop in
     let q = c .before .before .before .before .before .before .before .pre in
     let g = legal _ (q .0) in
     let v = c .before .before .before .loop .inv in
     let l = c .before .before .loop-test .taken in
-    let more : looped .clock < start .args .end = omega (arith, l, q .1 .1 .1 .0) in
     ⊎-elim
     (λ w. rw (w .1, w .2, w .3, w .4, w .5, w .6) (going-on _ _ _ _ _ _ _ _ _ _ _ v l g (c .before .rests .ensures (w .0 .taken))))
     (⊎-elim
     (λ w.
     let a = w .3 .ensures in
-    let h = handed _ g _ more _ (a .2) _ (v .walks .at-run) _ _ _ _ _ _ _ (w .12 .ensures) _ _ (a .1) in
-    let t = turned _ g _ more _ (a .2) _ (v .walks .at-run) _ _ _ _ _ _ _ (w .12 .ensures) _ _ (a .0) (a .1) in
+    let h = handed _ _ _ (a .2) _ (v .walks .at-run) _ _ _ _ _ _ _ (w .12 .ensures) _ _ (a .1) in
+    let t = turned _ _ _ (a .2) _ (v .walks .at-run) _ _ _ _ _ _ _ (w .12 .ensures) _ _ (a .0) (a .1) in
     rw (w .22, w .23, w .24, w .25, w .26, w .27) (going-more _ _ _ _ _ _ _ _ _ _ _ v l _ _ _ _ _ _ t (w .20 .given)
     (λ z. room-next _ g _ _ (noted-here _ _ _ _ _ _ _ _ _ _ _ v z) _ (a .0) _ _ _ _ h _ (w .19 .ensures))))
     (λ w.
     let a = w .3 .ensures in
-    let t = turned _ g _ more _ (a .2) _ (v .walks .at-run) _ _ _ _ _ _ _ (w .12 .ensures) _ _ (a .0) (a .1) in
+    let t = turned _ _ _ (a .2) _ (v .walks .at-run) _ _ _ _ _ _ _ (w .12 .ensures) _ _ (a .0) (a .1) in
     rw (w .14, w .15, w .16, w .17, w .18, w .19)
     (going-more _ _ _ _ _ _ _ _ _ _ _ v l _ _ _ _ _ _ t refl (λ z. absurd (true≢false (sym z ∙ w .13 .left))))))
     (c .if1 .came)
@@ -114,7 +112,7 @@ walk-spec =
     μ-loop
     loop-holds
     rests-requires
-    take-releases-requires
+    pass-releases-requires
     step-requires
     note-slot-requires
     add-clock

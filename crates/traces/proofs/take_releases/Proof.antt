@@ -1,20 +1,20 @@
--- `engine::take_releases` meets its contract.
+-- `traces::take_releases` meets its contract.
 use Rattle.rules.specs.Words.{tab}
 use Rattle.rules.specs.Limits.{maxTasks}
 use Rattle.rules.specs.Case.{releaseCount}
 use native.Mathlib.Omega.{arith}
 use mathlib.Core.Path.{ap, sym, _∙_}
 use Prim.Native.Nat.{ℕ, _-_, _≤_, _<_}
-use Rattle.engine.proofs.Trace.{Taking, taking-none, taking-more, taking-done}
+use Rattle.traces.proofs.Taking.{Taking, taking-none, taking-more, taking-done}
 use borrow.Author.Needs.{needs}
-use Rattle.engine.proofs.take_releases.Statement.{statement}
-use Rattle.engine.proofs.take_releases.Tie as tie
+use Rattle.traces.proofs.take_releases.Statement.{statement}
+use Rattle.traces.proofs.take_releases.Tie as tie
 
 abbrev Inv-loop : tie.InvT-loop
-Inv-loop trace from clock place₀ released₀ n k₀ place released k = (from ≤ k) × Taking trace clock k place released
+Inv-loop trace from clock released₀ n k₀ released k = Taking trace clock from k released
 
 abbrev μ-loop : tie.MeasureT-loop
-μ-loop trace from clock place₀ released₀ n k₀ place released k = n - k
+μ-loop trace from clock released₀ n k₀ released k = n - k
 
 -- the release at hand is one of the trace, and names one of the tasks that a run has
 more : (c : tie.After-name-of Inv-loop μ-loop) → c .before .before .before .before .loop .k
@@ -32,7 +32,7 @@ release-count-requires c κs = search needs
 
 loop-holds : tie.Need-loop-holds Inv-loop μ-loop
 unfolding tab
-loop-holds c = (omega arith, taking-none _ _ _ _ (c .before .before .before .pre .1 .0) (c .before .before .before .pre .1 .1))
+loop-holds c = taking-none _ _ _ (c .before .before .before .pre .1)
 
 time-of-requires : tie.Need-time-of-requires Inv-loop μ-loop
 time-of-requires c κs = omega (arith, c .loop-test .taken, c .before .before .release-count .ensures)
@@ -49,12 +49,6 @@ sub-i c = omega (arith, named c)
 element-write-released : tie.Need-element-write-released Inv-loop μ-loop
 element-write-released c = omega (arith, named c)
 
-mul-place : tie.Need-mul-place Inv-loop μ-loop
-mul-place c = omega (arith, named c)
-
-element-write-place : tie.Need-element-write-place Inv-loop μ-loop
-element-write-place c = omega (arith, named c)
-
 add-k : tie.Need-add-k Inv-loop μ-loop
 add-k c = search needs
 
@@ -68,23 +62,20 @@ loop-again c =
     let q = at-loop .before .before .before .before .pre in
     let now = sym (c .before .before .time-of .ensures) ∙ c .before .if1 .taken in
     let index = ap (λ (n : ℕ). n - 1) (c .name-of .ensures) in
-    (omega arith, taking-more _ _ (l .k) _ _ _ (q .0) (more c) now index (l .inv .1))
+    taking-more _ _ _ (l .k) _ _ (q .0) (more c) now index (l .inv)
 
 returns : tie.Need-returns Inv-loop μ-loop
 returns c =
     let l = c .before .before .before .loop in
-    let t = taking-done _ _ (l .k) _ _ (c .before .before .before .before .before .before .before .pre .0)
-    (λ h e. c .if1 .left (c .before .time-of .ensures ∙ e)) (l .inv .1) in
-    (t .reached, t .at-place, t .at-released)
+    taking-done _ _ _ (l .k) _ (c .before .before .before .before .before .before .before .pre .0)
+    (λ h e. c .if1 .left (c .before .time-of .ensures ∙ e)) (l .inv)
 
 returns-2 : tie.Need-returns-2 Inv-loop μ-loop
 returns-2 c =
     let l = c .before .loop in
     let count = c .before .before .release-count .ensures in
-    let t = taking-done _ _ (l .k) _ _ (c .before .before .before .before .before .pre .0)
-    (λ h e. omega (arith, c .loop-test .left, count))
-    (l .inv .1) in
-    (t .reached, t .at-place, t .at-released)
+    taking-done _ _ _ (l .k) _ (c .before .before .before .before .before .pre .0)
+    (λ h e. omega (arith, c .loop-test .left, count)) (l .inv)
 
 pub take-releases-spec : {M : Type 1} → statement M
 take-releases-spec =
@@ -99,8 +90,6 @@ take-releases-spec =
     cast-i
     sub-i
     element-write-released
-    mul-place
-    element-write-place
     add-k
     loop-less
     loop-again
