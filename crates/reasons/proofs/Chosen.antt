@@ -1,13 +1,13 @@
 -- The words that a number chooses, as they are laid, and how long they can be.
 use mathlib.Core.Path.{_≡_, refl}
 use mathlib.Core.List.{List, [], _∷_}
-use Prim.Native.Nat.{ℕ, zero, suc, _≤_}
+use Prim.Native.Nat.{ℕ, zero, suc, _+_, _-_, _≤_}
 use native.Mathlib.Omega.{arith}
 use lib.ListN.{length, getD, length-append, List·getD-eq-default}
 use Rattle.texts.specs.Digits.{at-most-ten}
 use Rattle.puts.specs.Laid.{Laid}
 use Rattle.puts.proofs.Chosen.{Outside, above}
-use Rattle.reasons.specs.Reasons.{signBytes, words, reasons, plainReason, reasonOf, reasonRoom, Said}
+use Rattle.reasons.specs.Reasons.{signBytes, words, reasons, plainReason, reasonOf, reasonRoom, Said, NotEarly}
 
 -- ---- how long
 abbrev Short : List (List ℕ) → Type 0
@@ -52,7 +52,22 @@ reason-short n p =
                             simp length-append (omega (arith, at-most-ten p)),
                             (
                               omega arith,
-                              (omega arith, (omega arith, (omega arith, (simp length-append (omega (arith, at-most-ten p)), tt)))),
+                              (
+                                omega arith,
+                                (
+                                  omega arith,
+                                  (
+                                    omega arith,
+                                    (
+                                      simp length-append (omega (arith, at-most-ten p)),
+                                      (
+                                        simp length-append (omega (arith, at-most-ten p)),
+                                        (simp length-append (omega (arith, at-most-ten p)), (omega arith, tt)),
+                                      ),
+                                    ),
+                                  ),
+                                ),
+                              ),
                             ),
                           ),
                         ),
@@ -80,16 +95,42 @@ pub chosen : {n : ℕ} {old new : List ℕ} {end : ℕ} (p k : ℕ) → n ≡ k
 unfolding reasonOf
 chosen p k e l = rw e (said k p refl l)
 
--- the last number with words of its own, and a number with none
+-- ---- a number that is none of 1 to 12, as a match says it in its last arm
+pub not-early : (n : ℕ) → Outside 12 n → NotEarly n
+not-early n o h = above 12 n h o
+
+-- ---- a number with no words of its own
+-- none of the k numbers from a on, as a match says it in its last arm
+abbrev pub NoneFrom : ℕ → ℕ → ℕ → Type 0
+NoneFrom a zero n = Unit {0}
+NoneFrom a (suc k) n = NoneFrom a k n × (n ≡ a + k → ⊥)
+
+-- one that is not below a is above all of them
+above-from : (a k n : ℕ) → a ≤ n → NoneFrom a k n → a + k ≤ n
+above-from a zero n h o = omega (arith, h)
+above-from a (suc k) n h o = next a k n (o .1) (above-from a k n h (o .0))
+  where
+    next : (a k n : ℕ) → (n ≡ a + k → ⊥) → a + k ≤ n → a + suc k ≤ n
+    next a k n f b = omega (arith, f)
+
+-- the last number with words of its own, and those from 13 to it, which `put_late_reason` has
 abbrev pub lastWorded : ℕ
-lastWorded = 16
+lastWorded = 19
 
-beyond : (n p : ℕ) → Outside lastWorded n → plainReason n p ≡ reasonOf n p
+abbrev firstLate : ℕ
+firstLate = 13
+
+abbrev lateNumbers : ℕ
+lateNumbers = lastWorded - 12
+
+beyond : (n p : ℕ) → NotEarly n → NoneFrom firstLate lateNumbers n → plainReason n p ≡ reasonOf n p
 unfolding reasonOf
-beyond zero p o = refl
-beyond (suc n) p o = rw (List·getD-eq-default (plainReason (suc n) p ∷ reasons p) (plainReason (suc n) p)
-    (above lastWorded (suc n) (omega arith) o))
+beyond zero p e o = refl
+beyond (suc n) p e o =
+    let h : suc lastWorded ≤ suc n = above-from firstLate lateNumbers (suc n) (e (omega arith)) o in
+    rw (List·getD-eq-default (plainReason (suc n) p ∷ reasons p) (plainReason (suc n) p) h)
 
-pub plainly : {old new : List ℕ} {end : ℕ} (n p : ℕ) → Outside lastWorded n → Laid 0 (plainReason n p) old new end
+pub plainly : {old new : List ℕ} {end : ℕ} (n p : ℕ) → NotEarly n → NoneFrom firstLate lateNumbers n
+    → Laid 0 (plainReason n p) old new end
     → Said (reasonOf n p) old new end
-plainly n p o l = said n p (beyond n p o) l
+plainly n p e o l = said n p (beyond n p e o) l

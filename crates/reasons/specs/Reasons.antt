@@ -1,5 +1,6 @@
 -- The words of a refusal, for a person to read: what is wrong and where, by the refusal's number and place (document 01, "Refusals by
--- number", and request P1, which adds 16). A new number is one line of `reasons`, and one arm of `put_reason`.
+-- number", request P1, which adds 16, and request P2, which adds 17 to 19). A new number is one line of `reasons`, and one arm of
+-- `put_late_reason`.
 use Prim.Native.Nat.{ℕ, _+_, _/_, _%_, _≤_}
 use Prim.Native.Char.{code}
 use Prim.Native.String.{String}
@@ -49,10 +50,17 @@ reasons p =
     words "room: too short" ∷
     words "policy: not 0 or 1" ∷
     words "slot: not before the end" ∷
-    placed "task " p ": is never released, so no verdict covers it" ∷ []
+    placed "task " p ": is never released, so no verdict covers it" ∷
+    placed "log line " p ": badly formed, tasks that do not rise, or a wrong time" ∷
+    placed "log line " p ": its slot breaks the rule" ∷
+    words "log: its number of lines is not the end" ∷ []
 
 unfoldable pub reasonOf : ℕ → ℕ → List ℕ
 reasonOf n p = getD (plainReason n p ∷ reasons p) n (plainReason n p)
+
+-- none of the numbers 1 to 12, which a case's text and numbers have
+abbrev pub NotEarly : ℕ → Type 0
+NotEarly n = 1 ≤ n → 13 ≤ n
 
 -- no words of a refusal are longer than this
 abbrev pub reasonRoom : ℕ

@@ -4,7 +4,7 @@ ghost use Prim.Native.Nat.{_+_, _≤_};
 ghost use lib.ListN.{length};
 ghost use Rattle.rules.specs.Text.{digitsOf};
 ghost use Rattle.puts.specs.Laid.{Laid};
-ghost use Rattle.reasons.specs.Reasons.{plainReason, reasonOf, reasonRoom, Said};
+ghost use Rattle.reasons.specs.Reasons.{plainReason, reasonOf, reasonRoom, Said, NotEarly};
 use puts::put_bytes;
 use puts::put_number;
 
@@ -25,6 +25,34 @@ fn put_plain(out: &mut [u8], number: u32, place: u32) -> usize
 {
     let at = put_placed(out, b"refusal ", number, b" at ");
     put_number(out, at, place)
+}
+
+// Writes the words of a refusal with none of the numbers that a case's text and numbers have, 1 to 12.
+fn put_late_reason(out: &mut [u8], number: u32, place: u32) -> usize
+    requires { ⌜ reasonRoom ≤ length (now out) ⌝ }
+    requires { ⌜ NotEarly number ⌝ }
+    ensures { λ r. ⌜ Said (reasonOf number place) (now (out .entry)) (now (out .exit)) r ⌝ }
+{
+    match number {
+        13 => put_bytes(out, 0, b"room: too short"),
+        14 => put_bytes(out, 0, b"policy: not 0 or 1"),
+        15 => put_bytes(out, 0, b"slot: not before the end"),
+        16 => put_placed(
+            out,
+            b"task ",
+            place,
+            b": is never released, so no verdict covers it",
+        ),
+        17 => put_placed(
+            out,
+            b"log line ",
+            place,
+            b": badly formed, tasks that do not rise, or a wrong time",
+        ),
+        18 => put_placed(out, b"log line ", place, b": its slot breaks the rule"),
+        19 => put_bytes(out, 0, b"log: its number of lines is not the end"),
+        _ => put_plain(out, number, place),
+    }
 }
 
 // Writes the words of a refusal, chosen by its number, at the start of the lent bytes and returns their length.
@@ -60,15 +88,6 @@ pub fn put_reason(out: &mut [u8], number: u32, place: u32) -> usize
         ),
         11 => put_placed(out, b"release ", place, b": its time is not before the end"),
         12 => put_bytes(out, 0, b"releases: over 2,000, or not two numbers each"),
-        13 => put_bytes(out, 0, b"room: too short"),
-        14 => put_bytes(out, 0, b"policy: not 0 or 1"),
-        15 => put_bytes(out, 0, b"slot: not before the end"),
-        16 => put_placed(
-            out,
-            b"task ",
-            place,
-            b": is never released, so no verdict covers it",
-        ),
-        _ => put_plain(out, number, place),
+        _ => put_late_reason(out, number, place),
     }
 }

@@ -1,6 +1,6 @@
 -- `reasons::put_reason` meets its contract: in each arm the words are known by the number.
 use Rattle.reasons.specs.Reasons.{signBytes, words}
-use Rattle.reasons.proofs.Chosen.{chosen, plainly}
+use Rattle.reasons.proofs.Chosen.{chosen, not-early}
 use borrow.Author.Needs.{needs}
 use Rattle.reasons.proofs.put_reason.Statement.{statement}
 use Rattle.reasons.proofs.put_reason.Tie as tie
@@ -98,35 +98,8 @@ slice-aggregate-put-bytes-5 c = search needs
 put-bytes-requires-5 : tie.Need-put-bytes-requires-5
 put-bytes-requires-5 c κs = search needs
 
-slice-aggregate-put-bytes-6 : tie.Need-slice-aggregate-put-bytes-6
-slice-aggregate-put-bytes-6 c = search needs
-
-put-bytes-requires-6 : tie.Need-put-bytes-requires-6
-put-bytes-requires-6 c κs = search needs
-
-slice-aggregate-put-bytes-7 : tie.Need-slice-aggregate-put-bytes-7
-slice-aggregate-put-bytes-7 c = search needs
-
-put-bytes-requires-7 : tie.Need-put-bytes-requires-7
-put-bytes-requires-7 c κs = search needs
-
-slice-aggregate-put-bytes-8 : tie.Need-slice-aggregate-put-bytes-8
-slice-aggregate-put-bytes-8 c = search needs
-
-put-bytes-requires-8 : tie.Need-put-bytes-requires-8
-put-bytes-requires-8 c κs = search needs
-
-slice-aggregate-put-placed-15 : tie.Need-slice-aggregate-put-placed-15
-slice-aggregate-put-placed-15 c = search needs
-
-slice-aggregate-put-placed-16 : tie.Need-slice-aggregate-put-placed-16
-slice-aggregate-put-placed-16 c = search needs
-
-put-placed-requires-8 : tie.Need-put-placed-requires-8
-put-placed-requires-8 c κs = search needs
-
-put-plain-requires : tie.Need-put-plain-requires
-put-plain-requires c κs = search needs
+put-late-reason-requires : tie.Need-put-late-reason-requires
+put-late-reason-requires c κs = (c .before .before .before .pre, not-early _ (c .before .match .rest))
 
 same-length : tie.Need-same-length
 same-length c = search needs
@@ -216,35 +189,7 @@ same-length-13 : tie.Need-same-length-13
 same-length-13 c = search needs
 
 returns-13 : tie.Need-returns-13
-unfolding words signBytes
-returns-13 c = chosen _ 13 (search needs) (c .before .before .put-bytes6 .ensures)
-
-same-length-14 : tie.Need-same-length-14
-same-length-14 c = search needs
-
-returns-14 : tie.Need-returns-14
-unfolding words signBytes
-returns-14 c = chosen _ 14 (search needs) (c .before .before .put-bytes7 .ensures)
-
-same-length-15 : tie.Need-same-length-15
-same-length-15 c = search needs
-
-returns-15 : tie.Need-returns-15
-unfolding words signBytes
-returns-15 c = chosen _ 15 (search needs) (c .before .before .put-bytes8 .ensures)
-
-same-length-16 : tie.Need-same-length-16
-same-length-16 c = search needs
-
-returns-16 : tie.Need-returns-16
-unfolding words signBytes
-returns-16 c = chosen _ 16 (search needs) (c .before .before .put-placed8 .ensures)
-
-same-length-17 : tie.Need-same-length-17
-same-length-17 c = search needs
-
-returns-17 : tie.Need-returns-17
-returns-17 c = plainly _ _ (c .before .before .before .before .match .rest) (c .before .before .put-plain .ensures)
+returns-13 c = c .before .before .put-late-reason .ensures
 
 pub put-reason-spec : {M : Type 1} → statement M
 put-reason-spec =
@@ -281,16 +226,7 @@ put-reason-spec =
     put-placed-requires-7
     slice-aggregate-put-bytes-5
     put-bytes-requires-5
-    slice-aggregate-put-bytes-6
-    put-bytes-requires-6
-    slice-aggregate-put-bytes-7
-    put-bytes-requires-7
-    slice-aggregate-put-bytes-8
-    put-bytes-requires-8
-    slice-aggregate-put-placed-15
-    slice-aggregate-put-placed-16
-    put-placed-requires-8
-    put-plain-requires
+    put-late-reason-requires
     same-length
     returns
     same-length-2
@@ -316,12 +252,4 @@ put-reason-spec =
     same-length-12
     returns-12
     same-length-13
-    returns-13
-    same-length-14
-    returns-14
-    same-length-15
-    returns-15
-    same-length-16
-    returns-16
-    same-length-17
-    returns-17)
+    returns-13)
