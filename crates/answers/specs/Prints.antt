@@ -14,9 +14,9 @@ use Rattle.rules.specs.declared.Fault.{Fault}
 use Rattle.report.specs.Cases.{countsText, slotText}
 use Rattle.wishes.specs.Asks.{askedFault}
 use Rattle.wishes.specs.declared.Wish.{Wish}
-use Rattle.wishes.specs.declared.Wish.the-variants.{Unknown, Help, Replay, Counts, Slot, Write}
+use Rattle.wishes.specs.declared.Wish.the-variants.{Unknown, Help, Replay, Counts, Slot, Write, Slots, Log}
 
--- of an accepted case
+-- of an accepted case; what `slots` and `log` print is written line by line and said elsewhere
 unfoldable pub caseSays : Wish → Case → List ℕ
 caseSays Unknown c = []
 caseSays Help c = []
@@ -24,6 +24,8 @@ caseSays Replay c = report c
 caseSays Counts c = countsText (c .procs) (c .table)
 caseSays (Slot s) c = slotText c s
 caseSays Write c = caseText c
+caseSays Slots c = []
+caseSays (Log k) c = []
 
 -- of a text: the refusal's line alone, or what its case says
 unfoldable pub textSays : Wish → List ℕ → List ℕ

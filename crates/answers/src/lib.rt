@@ -37,7 +37,8 @@ fn put_refusal(out: &mut [u8], taken: Taken) -> usize
     }
 }
 
-// Writes what a wish asks of a case.
+// Writes what a wish asks of a case. A log, asked for or checked, may be of any length: the program writes it line by line, and nothing
+// of it is put here.
 fn put_wish(
     out: &mut [u8],
     wish: Wish,
@@ -59,6 +60,8 @@ fn put_wish(
         Wish::Write => put_text(out, procs, policy, table, end, trace),
         Wish::Help => 0,
         Wish::Unknown => 0,
+        Wish::Slots => 0,
+        Wish::Log { word: _ } => 0,
     }
 }
 

@@ -216,6 +216,8 @@ fn main() {
     match wish {
         Wish::Unknown => say_unknown(),
         Wish::Help => print_help(),
+        Wish::Slots => say_unknown(),
+        Wish::Log { word: _ } => say_unknown(),
         _ => run(wish, quiet),
     }
 }

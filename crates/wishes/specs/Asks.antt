@@ -12,7 +12,7 @@ use Rattle.rules.specs.declared.Num.the-variants.{Value, Bad}
 use Rattle.reasons.specs.Reasons.{words}
 use Rattle.wishes.specs.declared.Asked.{Asked}
 use Rattle.wishes.specs.declared.Wish.{Wish}
-use Rattle.wishes.specs.declared.Wish.the-variants.{Unknown, Help, Replay, Counts, Slot, Write}
+use Rattle.wishes.specs.declared.Wish.the-variants.{Unknown, Help, Replay, Counts, Slot, Write, Slots, Log}
 
 abbrev pub askedOf : Wish → Bool → Asked
 askedOf w q = record { wish = w; quiet = q }
@@ -23,7 +23,8 @@ unfoldable pub wordAsks : List ℕ → Wish
 wordAsks w =
     pick (same w (words "counts")) Counts
     (pick (same w (words "write")) Write
-    (pick (same w (words "help")) Help (pick (same w (words "-h")) Help (pick (same w (words "--help")) Help Unknown))))
+    (pick (same w (words "slots")) Slots
+    (pick (same w (words "help")) Help (pick (same w (words "-h")) Help (pick (same w (words "--help")) Help Unknown)))))
 
 -- `slot` and its number
 unfoldable pub slotNamed : List ℕ → Num → Wish
@@ -32,6 +33,10 @@ slotNamed w Bad = Unknown
 
 abbrev pub slotAsks : List ℕ → List ℕ → Wish
 slotAsks w n = slotNamed w (numberIn n)
+
+-- `log` and its file, which is word k of the program and may be any word at all; else what `slot` and its number ask
+unfoldable pub logAsks : List ℕ → List ℕ → ℕ → Wish
+logAsks w n k = pick (same w (words "log")) (Log k) (slotAsks w n)
 
 -- ---- the words after the program's name: a command, with `-q` before it or after it where the words of a refusal are to be left out
 abbrev pub isQuiet : List ℕ → Bool
@@ -42,11 +47,11 @@ oneAsks a = pick (isQuiet a) (askedOf Replay true) (askedOf (wordAsks a) false)
 
 unfoldable pub twoAsk : List ℕ → List ℕ → Asked
 twoAsk a b =
-    pick (isQuiet a) (askedOf (wordAsks b) true) (pick (isQuiet b) (askedOf (wordAsks a) true) (askedOf (slotAsks a b) false))
+    pick (isQuiet a) (askedOf (wordAsks b) true) (pick (isQuiet b) (askedOf (wordAsks a) true) (askedOf (logAsks a b 2) false))
 
 unfoldable pub threeAsk : List ℕ → List ℕ → List ℕ → Asked
 threeAsk a b c =
-    pick (isQuiet a) (askedOf (slotAsks b c) true) (pick (isQuiet c) (askedOf (slotAsks a b) true) (askedOf Unknown false))
+    pick (isQuiet a) (askedOf (logAsks b c 3) true) (pick (isQuiet c) (askedOf (logAsks a b 2) true) (askedOf Unknown false))
 
 -- so many words, the program's name being one of them; the name alone asks for the replay, and no command has more than three others
 unfoldable pub wordsAsk : ℕ → List ℕ → List ℕ → List ℕ → Asked
@@ -69,9 +74,14 @@ isAsked Replay = true
 isAsked Counts = true
 isAsked (Slot s) = true
 isAsked Write = true
+isAsked Slots = true
+isAsked (Log k) = true
 
 unfoldable pub isKnown : List ℕ → Bool
-isKnown w = pick (isQuiet w) true (pick (same w (words "slot")) true (pick (isNumber (numberIn w)) true (isAsked (wordAsks w))))
+isKnown w =
+    pick (isQuiet w) true
+    (pick (same w (words "slot")) true
+    (pick (same w (words "log")) true (pick (isNumber (numberIn w)) true (isAsked (wordAsks w)))))
 
 -- ---- what is at fault in what is asked of an accepted case that ends at e
 unfoldable pub askedFault : Wish → ℕ → Fault
@@ -81,3 +91,5 @@ askedFault Replay e = noFault
 askedFault Counts e = noFault
 askedFault (Slot s) e = slotFault e s
 askedFault Write e = noFault
+askedFault Slots e = noFault
+askedFault (Log k) e = noFault

@@ -1,10 +1,12 @@
 // What the words of the command line ask, and what is at fault in that.
 ghost use mathlib.Core.Path.{_≡_};
-ghost use Rattle.wishes.specs.Asks.{askedOf, wordAsks, slotAsks, isQuiet, oneAsks, twoAsk, threeAsk, wordsAsk, isKnown, askedFault};
+ghost use Rattle.wishes.specs.Asks.{askedOf, wordAsks, slotAsks, logAsks, isQuiet, oneAsks, twoAsk, threeAsk, wordsAsk, isKnown};
+ghost use Rattle.wishes.specs.Asks.{askedFault};
 use rules::Fault;
 use rules::Num;
 
-// What the words after the program's name ask for.
+// What the words after the program's name ask for. `word` is the index of the log's name among the program's words: it may be any word
+// at all, and a longer one than is handed here.
 pub enum Wish {
     Unknown,
     Help,
@@ -12,6 +14,8 @@ pub enum Wish {
     Counts,
     Slot { slot: u32 },
     Write,
+    Slots,
+    Log { word: u32 },
 }
 
 // What is asked, and whether the words of a refusal are left out.
@@ -36,6 +40,9 @@ fn alone(word: &[u8]) -> Wish
     if words::same_bytes(word, b"write") {
         return Wish::Write;
     }
+    if words::same_bytes(word, b"slots") {
+        return Wish::Slots;
+    }
     if words::same_bytes(word, b"help") {
         return Wish::Help;
     }
@@ -59,6 +66,16 @@ fn named_slot(word: &[u8], number: &[u8]) -> Wish
         return Wish::Slot { slot: value };
     }
     Wish::Unknown
+}
+
+// The wish of two words of which the second is the program's word `at`: `log` and its file, or `slot` and its number.
+fn named(word: &[u8], name: &[u8], at: u32) -> Wish
+    ensures { λ r. ⌜ r ≡ logAsks (now (word .entry)) (now (name .entry)) at ⌝ }
+{
+    if words::same_bytes(word, b"log") {
+        return Wish::Log { word: at };
+    }
+    named_slot(word, name)
 }
 
 // Whether a word is `-q`.
@@ -88,7 +105,7 @@ fn two_ask(first: &[u8], second: &[u8]) -> Asked
     if is_quiet(second) {
         return asking(alone(first), true);
     }
-    asking(named_slot(first, second), false)
+    asking(named(first, second, 2), false)
 }
 
 // What three words ask.
@@ -96,10 +113,10 @@ fn three_ask(first: &[u8], second: &[u8], third: &[u8]) -> Asked
     ensures { λ r. ⌜ r ≡ threeAsk (now (first .entry)) (now (second .entry)) (now (third .entry)) ⌝ }
 {
     if is_quiet(first) {
-        return asking(named_slot(second, third), true);
+        return asking(named(second, third, 3), true);
     }
     if is_quiet(third) {
-        return asking(named_slot(first, second), true);
+        return asking(named(first, second, 2), true);
     }
     asking(Wish::Unknown, false)
 }
@@ -125,6 +142,9 @@ pub fn is_known(word: &[u8]) -> bool
         return true;
     }
     if words::same_bytes(word, b"slot") {
+        return true;
+    }
+    if words::same_bytes(word, b"log") {
         return true;
     }
     let Num::Bad = scan::number(word) else {

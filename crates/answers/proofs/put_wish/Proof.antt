@@ -38,6 +38,12 @@ enum-told-4 c = search needs
 enum-told-5 : tie.Need-enum-told-5
 enum-told-5 c = search needs
 
+enum-told-6 : tie.Need-enum-told-6
+enum-told-6 c = search needs
+
+enum-told-7 : tie.Need-enum-told-7
+enum-told-7 c = search needs
+
 same-length : tie.Need-same-length
 same-length c = search needs
 
@@ -74,6 +80,14 @@ returns-6 : tie.Need-returns-6
 unfolding caseSays
 returns-6 c = wish-shown _ _ _ _ _ _ (c .enum-told5 .given .1) (nothing-shown _)
 
+returns-7 : tie.Need-returns-7
+unfolding caseSays
+returns-7 c = wish-shown _ _ _ _ _ _ (c .enum-told6 .given .1) (nothing-shown _)
+
+returns-8 : tie.Need-returns-8
+unfolding caseSays
+returns-8 c = wish-shown _ _ _ _ _ _ (c .enum-told7 .given .1) (nothing-shown _)
+
 pub put-wish-spec : {M : Type 1} → statement M
 put-wish-spec =
     tie.close
@@ -88,6 +102,8 @@ put-wish-spec =
     put-text-requires
     enum-told-4
     enum-told-5
+    enum-told-6
+    enum-told-7
     same-length
     returns
     same-length-2
@@ -97,4 +113,6 @@ put-wish-spec =
     same-length-4
     returns-4
     returns-5
-    returns-6)
+    returns-6
+    returns-7
+    returns-8)

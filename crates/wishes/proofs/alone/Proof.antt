@@ -7,20 +7,23 @@ use Rattle.rules.specs.Text.{same}
 use Rattle.reasons.specs.Reasons.{signBytes, words}
 use Rattle.wishes.specs.Asks.{wordAsks}
 use Rattle.wishes.specs.declared.Wish.{Wish}
-use Rattle.wishes.specs.declared.Wish.the-variants.{Unknown, Help, Write}
+use Rattle.wishes.specs.declared.Wish.the-variants.{Unknown, Help, Write, Slots}
 use borrow.Author.Needs.{needs}
 use Rattle.wishes.proofs.alone.Statement.{statement}
 use Rattle.wishes.proofs.alone.Tie as tie
 
 -- ---- the row of tests from its second on
+abbrev sixth : List ℕ → Wish
+sixth w = pick (same w (words "--help")) Help Unknown
+
 abbrev fifth : List ℕ → Wish
-fifth w = pick (same w (words "--help")) Help Unknown
+fifth w = pick (same w (words "-h")) Help (sixth w)
 
 abbrev fourth : List ℕ → Wish
-fourth w = pick (same w (words "-h")) Help (fifth w)
+fourth w = pick (same w (words "help")) Help (fifth w)
 
 abbrev third : List ℕ → Wish
-third w = pick (same w (words "help")) Help (fourth w)
+third w = pick (same w (words "slots")) Slots (fourth w)
 
 abbrev second : List ℕ → Wish
 second w = pick (same w (words "write")) Write (third w)
@@ -46,6 +49,12 @@ past-fourth : (c : tie.Else4) → wordAsks (word (c .before .before .before .bef
     ≡ fifth (word (c .before .before .before .before .before .before .before .before .before))
 unfolding words signBytes
 past-fourth c = past-third (c .before .before .before) ∙ rw (sym (c .before .same-bytes4 .ensures) ∙ c .if4 .left)
+
+past-fifth : (c : tie.Else5)
+    → wordAsks (word (c .before .before .before .before .before .before .before .before .before .before .before .before))
+    ≡ sixth (word (c .before .before .before .before .before .before .before .before .before .before .before .before))
+unfolding words signBytes
+past-fifth c = past-fourth (c .before .before .before) ∙ rw (sym (c .before .same-bytes5 .ensures) ∙ c .if5 .left)
 
 -- ---- the tests, and what is returned where one holds
 slice-aggregate-same-bytes : tie.Need-slice-aggregate-same-bytes
@@ -98,9 +107,19 @@ returns-5 : tie.Need-returns-5
 unfolding words signBytes
 returns-5 c = sym (past-fourth (c .before .before .before) ∙ rw (sym (c .before .same-bytes5 .ensures) ∙ c .if5 .taken))
 
+slice-aggregate-same-bytes-6 : tie.Need-slice-aggregate-same-bytes-6
+slice-aggregate-same-bytes-6 c = search needs
+
+same-bytes-requires-6 : tie.Need-same-bytes-requires-6
+same-bytes-requires-6 c κs = search needs
+
 returns-6 : tie.Need-returns-6
 unfolding words signBytes
-returns-6 c = sym (past-fourth (c .before .before .before) ∙ rw (sym (c .before .same-bytes5 .ensures) ∙ c .if5 .left))
+returns-6 c = sym (past-fifth (c .before .before .before) ∙ rw (sym (c .before .same-bytes6 .ensures) ∙ c .if6 .taken))
+
+returns-7 : tie.Need-returns-7
+unfolding words signBytes
+returns-7 c = sym (past-fifth (c .before .before .before) ∙ rw (sym (c .before .same-bytes6 .ensures) ∙ c .if6 .left))
 
 pub alone-spec : {M : Type 1} → statement M
 alone-spec =
@@ -121,4 +140,7 @@ alone-spec =
     slice-aggregate-same-bytes-5
     same-bytes-requires-5
     returns-5
-    returns-6)
+    slice-aggregate-same-bytes-6
+    same-bytes-requires-6
+    returns-6
+    returns-7)

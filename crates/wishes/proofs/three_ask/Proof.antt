@@ -9,8 +9,8 @@ use Rattle.wishes.proofs.three_ask.Tie as tie
 is-quiet-requires : tie.Need-is-quiet-requires
 is-quiet-requires c κs = search needs
 
-named-slot-requires : tie.Need-named-slot-requires
-named-slot-requires c κs = search needs
+named-requires : tie.Need-named-requires
+named-requires c κs = search needs
 
 asking-requires : tie.Need-asking-requires
 asking-requires c κs = search needs
@@ -19,7 +19,7 @@ returns : tie.Need-returns
 unfolding threeAsk
 returns c =
     let test = c .before .before in
-    c .asking .ensures ∙ rw (c .before .named-slot .ensures, sym (test .before .is-quiet .ensures) ∙ test .if1 .taken)
+    c .asking .ensures ∙ rw (c .before .named .ensures, sym (test .before .is-quiet .ensures) ∙ test .if1 .taken)
 
 -- the first word is not `-q`
 loud : (c : tie.Else1) → isQuiet (c .before .before .before .before .before .args .first .now) ≡ false
@@ -28,8 +28,8 @@ loud c = sym (c .before .is-quiet .ensures) ∙ c .if1 .left
 is-quiet-requires-2 : tie.Need-is-quiet-requires-2
 is-quiet-requires-2 c κs = search needs
 
-named-slot-requires-2 : tie.Need-named-slot-requires-2
-named-slot-requires-2 c κs = search needs
+named-requires-2 : tie.Need-named-requires-2
+named-requires-2 c κs = search needs
 
 asking-requires-2 : tie.Need-asking-requires-2
 asking-requires-2 c κs = search needs
@@ -39,7 +39,7 @@ unfolding threeAsk
 returns-2 c =
     let test = c .before .before in
     let quiet = sym (test .before .is-quiet2 .ensures) ∙ test .if2 .taken in
-    c .asking2 .ensures ∙ rw (c .before .named-slot2 .ensures, loud (test .before .before), quiet)
+    c .asking2 .ensures ∙ rw (c .before .named2 .ensures, loud (test .before .before), quiet)
 
 asking-requires-3 : tie.Need-asking-requires-3
 asking-requires-3 c κs = search needs
@@ -55,11 +55,11 @@ three-ask-spec =
     tie.close
     (tie.spec
     is-quiet-requires
-    named-slot-requires
+    named-requires
     asking-requires
     returns
     is-quiet-requires-2
-    named-slot-requires-2
+    named-requires-2
     asking-requires-2
     returns-2
     asking-requires-3

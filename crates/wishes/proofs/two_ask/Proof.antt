@@ -41,8 +41,8 @@ returns-2 c =
     let quiet = sym (test .before .is-quiet2 .ensures) ∙ test .if2 .taken in
     c .asking2 .ensures ∙ rw (c .before .alone2 .ensures, loud (test .before .before), quiet)
 
-named-slot-requires : tie.Need-named-slot-requires
-named-slot-requires c κs = search needs
+named-requires : tie.Need-named-requires
+named-requires c κs = search needs
 
 asking-requires-3 : tie.Need-asking-requires-3
 asking-requires-3 c κs = search needs
@@ -52,7 +52,7 @@ unfolding twoAsk
 returns-3 c =
     let test = c .before .before in
     let quiet = sym (test .before .is-quiet2 .ensures) ∙ test .if2 .left in
-    c .asking3 .ensures ∙ rw (c .before .named-slot .ensures, loud (test .before .before), quiet)
+    c .asking3 .ensures ∙ rw (c .before .named .ensures, loud (test .before .before), quiet)
 
 pub two-ask-spec : {M : Type 1} → statement M
 two-ask-spec =
@@ -66,6 +66,6 @@ two-ask-spec =
     alone-requires-2
     asking-requires-2
     returns-2
-    named-slot-requires
+    named-requires
     asking-requires-3
     returns-3)
