@@ -170,6 +170,8 @@ static uint32_t make_call(void)
         return thrumcomb_read(BYTES(0), WORDS(1), WORDS(2), ANSWER);
     if (is("write", "nnwnwb"))
         return thrumcomb_write(CASE, BYTES(5), ANSWER);
+    if (is("check_log", "nnwnwb"))
+        return thrumcomb_check_log(CASE, BYTES(5), place + GUARD);
     stop("there is no call of that name");
     return 0;
 }

@@ -91,16 +91,12 @@ def spread_execution(rng, free, D, largest):
     return rng.choice([D, D, 1, rng.randint(1, D)])
 
 
-def some_table(rng, procs, tasks, longest, spread):
+def table_of(rng, procs, shape, execution):
     """A legal table, with execution times placed about the free counts.
 
     A free count rests on T and D alone, so C can be chosen beside it: equal to
     it (demoted at once), a little above (demoted later), or below (never).
     """
-    if spread:
-        shape, execution = spread_shape(rng, tasks, longest), spread_execution
-    else:
-        shape, execution = mixed_shape(rng, tasks, longest), mixed_execution
     known = [replay.Task(T, 1, D) for T, D in shape]
     largest = max(task.D for task in known)
     table = []
@@ -109,6 +105,12 @@ def some_table(rng, procs, tasks, longest, spread):
         C = execution(rng, free, task.D, largest)
         table += [task.T, within(1, C, task.D), task.D]
     return table
+
+
+def some_table(rng, procs, tasks, longest, spread):
+    if spread:
+        return table_of(rng, procs, spread_shape(rng, tasks, longest), spread_execution)
+    return table_of(rng, procs, mixed_shape(rng, tasks, longest), mixed_execution)
 
 
 def some_times(rng, T, first, end, slack, keep, most):

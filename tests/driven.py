@@ -28,6 +28,7 @@ CALLS = {
     "running_set": ("running_set", "nnwnwn"),
     "read_case": ("read", "bww"),
     "write_case": ("write", "nnwnwb"),
+    "check_log": ("check_log", "nnwnwb"),
 }
 
 # What stands about everything lent, and all over place and results before a

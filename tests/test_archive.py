@@ -12,13 +12,14 @@ import tempfile
 import unittest
 
 import driven
+import logs
 import replay
 from kit import INCLUDE, archive, kit, run
 
 RUST = shutil.which("rustc")
 
 # The calls that header and Rust declare, by their names in replay.py, each with how many rooms are lent to it.
-ROOMS = {"counts": 1, "replay": 1, "running_set": 0, "read_case": 2, "write_case": 1}
+ROOMS = {"counts": 1, "replay": 1, "running_set": 0, "read_case": 2, "write_case": 1, "check_log": 0}
 
 SET_A = [10, 1, 4, 10, 1, 1, 10, 5, 5]
 SET_B = [15, 5, 9, 15, 5, 9, 15, 6, 10]
@@ -174,7 +175,17 @@ def of_write():
         yield refused(what, "write_case", (*case, bytes_room(length)), number, place)
 
 
-BY_HAND = [*of_counts(), *of_replay(), *of_running_set(), *of_read(), *of_write()]
+def of_check_log():
+    """The logs of logs.py that are worked by hand."""
+    for row in logs.BY_HAND:
+        args = (*row.case, row.log)
+        if row.number == 0:
+            yield taken(row.what, "check_log", args, [])
+        else:
+            yield refused(row.what, "check_log", args, row.number, row.place)
+
+
+BY_HAND = [*of_counts(), *of_replay(), *of_running_set(), *of_read(), *of_write(), *of_check_log()]
 
 
 class FromC(unittest.TestCase):

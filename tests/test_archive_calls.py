@@ -72,13 +72,13 @@ class OfAnyLength(unittest.TestCase):
             for trace in traces + [ALL_AT_0]:
                 case = (2, 1, table, 10, trace)
                 calls += [("replay", (*case, room)), ("running_set", (*case, 0)),
-                          ("write_case", (*case, bytes_room))]
+                          ("write_case", (*case, bytes_room)), ("check_log", (*case, bytes_room))]
         calls += [("read_case", (b"\n" * 1_000_000, room, room)),
                   ("read_case", (cases.text_of(cases.Case(2, 1, SET_A, 10, ALL_AT_0)), room, room))]
         seen = driven.tally(calls, driven.hold(self, calls))
         self.assertEqual({name: set(numbers) for name, numbers in seen.items()},
                          {"counts": {0, 5}, "replay": {0, 5, 12}, "running_set": {0, 5, 12},
-                          "write_case": {0, 5, 12}, "read_case": {0, 1}})
+                          "write_case": {0, 5, 12}, "read_case": {0, 1}, "check_log": {5, 12, 17}})
 
 
 class TheDriver(unittest.TestCase):
