@@ -1,4 +1,4 @@
-"""The plain C replay gives the answers of replay.py."""
+"""The plain C replay and the plain C check of a log give the answers of replay.py."""
 
 import os
 import random
@@ -8,11 +8,19 @@ import tempfile
 import unittest
 
 import cases
+import logs
 import replay
 
 HERE = os.path.dirname(os.path.abspath(__file__))
-SOURCE = os.path.join(os.path.dirname(HERE), "bench", "replay.c")
+BENCH = os.path.join(os.path.dirname(HERE), "bench")
 COMPILER = shutil.which("cc") or shutil.which("gcc")
+
+
+def compiled(program, *sources, flags=()):
+    subprocess.run([COMPILER, "-std=c99", "-O2", "-Wall", "-Wextra",
+                    "-pedantic", "-Werror", *flags, "-o", program,
+                    *(os.path.join(BENCH, source) for source in sources)],
+                   check=True)
 
 
 def input_for(procs, policy, table, end, trace, room_length, repeat):
@@ -39,9 +47,7 @@ class CReplay(unittest.TestCase):
     def setUpClass(cls):
         cls.folder = tempfile.TemporaryDirectory()
         cls.program = os.path.join(cls.folder.name, "replay")
-        subprocess.run([COMPILER, "-std=c99", "-O2", "-Wall", "-Wextra",
-                        "-pedantic", "-Werror", "-o", cls.program, SOURCE],
-                       check=True)
+        compiled(cls.program, "replay.c")
 
     @classmethod
     def tearDownClass(cls):
@@ -88,6 +94,65 @@ class CReplay(unittest.TestCase):
                 self.assertSame(case, len(room))
                 met.add(call.number)
         self.assertEqual(met, set(cases.AIMS["replay"]))
+
+
+def log_input(case, log):
+    """A call as bench/log.c reads it."""
+    numbers = [case.procs, case.policy, len(case.table), *case.table, case.end,
+               len(case.trace), *case.trace, len(log)]
+    return " ".join(map(str, numbers)).encode() + b"\n" + log + b"\n"
+
+
+@unittest.skipIf(COMPILER is None, "no C compiler is found")
+class CLog(unittest.TestCase):
+
+    @classmethod
+    def setUpClass(cls):
+        cls.folder = tempfile.TemporaryDirectory()
+        cls.program = os.path.join(cls.folder.name, "log")
+        compiled(cls.program, "replay.c", "log.c",
+                 flags=["-DREPLAY_ONLY", "-DLOG_MAIN"])
+
+    @classmethod
+    def tearDownClass(cls):
+        cls.folder.cleanup()
+
+    def answers(self, asked):
+        """What the C check says of each (case, log)."""
+        said = b"".join(log_input(*one) for one in asked)
+        done = subprocess.run([self.program], input=said, capture_output=True,
+                              check=True)
+        return [tuple(map(int, line.split()))
+                for line in done.stdout.splitlines()]
+
+    def assertSame(self, asked):
+        found = self.answers(asked)
+        self.assertEqual(len(found), len(asked))
+        for (case, log), answer in zip(asked, found):
+            right = replay.check_log(*case, log)
+            self.assertEqual(answer, (right.number, *right.values), (case, log))
+
+    def test_logs_by_hand(self):
+        found = self.answers([(row.case, row.log) for row in logs.BY_HAND])
+        right = [(row.number, row.place) if row.number else (0,)
+                 for row in logs.BY_HAND]
+        self.assertEqual(found, right)
+
+    def test_random_logs(self):
+        self.assertSame([(log.case, log.data) for log in logs.logs("c", 5_000)])
+
+    def test_our_own_logs(self):
+        found = self.answers([(case, replay.own_log(*case))
+                              for case in cases.legal_cases("c logs", 300)])
+        self.assertEqual(set(found), {(0,)})
+
+    def test_a_large_case(self):
+        case = cases.full_case(random.Random("c log"), 1)
+        log = replay.own_log(*case)
+        turned = case._replace(policy=0)
+        self.assertEqual(self.answers([(case, log), (case, log[:-1])]),
+                         [(0,), (17, 100_000)])
+        self.assertSame([(turned, log)])
 
 
 if __name__ == "__main__":
