@@ -1,13 +1,15 @@
 /*
- * Measures the calls of libthrumcomb.a against the plain C of replay.c and text.c, in one process and by turns, so that both meet the same
- * machine. Standard input: `repeat L table.. K trace.. procs policy end` and then the bytes of a case text (up to the end).
+ * Measures the calls of libthrumcomb.a against the plain C of replay.c, text.c and log.c, in one process and by turns, so that both meet
+ * the same machine. Standard input: `repeat L table.. K trace.. procs policy end B`, then the B bytes of the case's own log, and then
+ * the bytes of a case text (up to the end).
  * Prints, in the processor time that clock() counts, the C time, Thrumcomb's time and their ratio for the replay, its checks alone, the
- * reader and the writer, whether the answers agree, and the stack that each call of Thrumcomb used.
+ * check of the log, the reader and the writer, whether the answers agree, and the stack that each call of Thrumcomb used.
  */
 
 #include <stddef.h>
 #include <stdint.h>
 
+#include "log.h"
 #include "text.h"
 #include "thrumcomb.h"
 
@@ -23,8 +25,9 @@ int replay(uint32_t procs, uint32_t policy, const uint32_t *table, size_t table_
 
 static uint32_t table[96], trace[4000], room_c[6000], room_t[6000], tasks[96], releases[4000];
 static uint8_t text[70000], out_c[70000], out_t[70000];
+static uint8_t slots[10000000];         /* more than 100,000 lines of 32 tasks take */
 static struct read_case read_c;
-static size_t table_len, trace_len, text_len;
+static size_t table_len, trace_len, slots_len, text_len;
 static uint32_t procs, policy, end;
 
 static uint32_t number(void)
@@ -50,7 +53,10 @@ static void read_input(void)
     procs = number();
     policy = number();
     end = number();
+    slots_len = number();
     getchar();
+    for (i = 0; i < slots_len && i < sizeof slots; i++)
+        slots[i] = (uint8_t)getchar();
     while (text_len < sizeof text && (b = getchar()) >= 0)
         text[text_len++] = (uint8_t)b;
 }
@@ -133,6 +139,25 @@ static void measure_checks(uint32_t repeat)
     line("checks", c, t, compared(number_c == 13 && number_t == 13 && place_c == place_t));
 }
 
+static void measure_log(uint32_t repeat)
+{
+    uint32_t place_c = 0, place_t = 0;
+    long c = 0, t = 0;
+    int number_c = 0, number_t = 0;
+    uint32_t k;
+
+    for (k = 0; k < repeat; k++) {
+        long a = clock();
+        number_c = check_log(procs, policy, table, table_len, end, trace, trace_len, slots, slots_len, &place_c);
+        c += clock() - a;
+        a = clock();
+        number_t = (int)thrumcomb_check_log(procs, policy, table, table_len, end, trace, trace_len, slots, slots_len, &place_t);
+        t += clock() - a;
+    }
+    /* A log that was refused would be measured as nearly nothing. */
+    line("log", c, t, compared(number_c == 0 && number_t == 0));
+}
+
 static void measure_text(uint32_t repeat)
 {
     size_t results[5] = {0, 0, 0, 0, 0}, length[1] = {0}, written = 0;
@@ -185,7 +210,10 @@ static void measure_stack(void)
     printf("stack: replay %lu bytes", (unsigned long)used());
     paint();
     thrumcomb_read(text, text_len, tasks, 96, releases, 4000, results, &place);
-    printf(", reader %lu bytes\n", (unsigned long)used());
+    printf(", reader %lu bytes", (unsigned long)used());
+    paint();
+    thrumcomb_check_log(procs, policy, table, table_len, end, trace, trace_len, slots, slots_len, &place);
+    printf(", log %lu bytes\n", (unsigned long)used());
 }
 
 int main(void)
@@ -195,6 +223,7 @@ int main(void)
     read_input();
     measure_replay(repeat);
     measure_checks(repeat);
+    measure_log(repeat);
     measure_text(repeat * 20);
     measure_stack();
     return 0;
