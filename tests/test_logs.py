@@ -633,6 +633,8 @@ class Fifo:
 
     def write(self, piece):
         """Writes a piece and waits until it is read; gives False where nobody reads any more."""
+        if self.end is None:
+            return False
         try:
             while piece:
                 piece = piece[os.write(self.end, piece):]

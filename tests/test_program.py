@@ -107,7 +107,12 @@ WRONG_WORDS = [
     (["-q", "-q"], None),
     (["-q", "counts", "-q"], None),
     (["-q", "slot", "1", "-q"], None),
-    (["slots", "1"], "slots"),
+    (["slots", "1"], None),
+    (["slots", "slots"], None),
+    (["slott", "1"], "slott"),
+    (["log"], None),
+    (["-q", "log"], None),
+    (["logs", "a"], "logs"),
     (["3", "slot"], None),
     (["a b", "*"], "a b"),
     (["a" * 64], "a" * 64),
@@ -130,6 +135,11 @@ def said_of(lines):
     return ("thrumcomb: " + REASONS[int(number)].replace("P", place.decode()) + "\n").encode()
 
 
+def contents(path):
+    with open(path, "rb") as file:
+        return file.read()
+
+
 def run(words, text, command=(RUNNER, PROGRAM)):
     return subprocess.run([*command, *words], input=text, capture_output=True,
                           timeout=120)
@@ -148,6 +158,8 @@ def expected(words, text):
         return replay.counts_report(text)
     if words[0] == "slot":
         return replay.slot_report(text, int(words[1]))
+    if words[0] == "slots":
+        return replay.slots_report(text)
     return replay.write_report(text)
 
 
@@ -200,7 +212,7 @@ class Printed(OfTheProgram):
     def test_a_refused_case_is_refused_in_every_way(self):
         for text, line in [(PRINTED_CASE.replace(b"procs\t2", b"procs\t33"), b"refused 4 0\n"),
                            (WITHOUT_TASK_3, b"refused 16 3\n")]:
-            for words in [[], ["counts"], ["slot", "0"], ["slot", "99"], ["write"]]:
+            for words in [[], ["counts"], ["slot", "0"], ["slot", "99"], ["slots"], ["write"]]:
                 self.assertPrints(words, text, line)
 
     def test_a_task_without_a_release(self):
@@ -224,12 +236,19 @@ class Printed(OfTheProgram):
         found = sorted(glob.glob(os.path.join(EXAMPLES, "*.case")))
         self.assertGreater(len(found), 14)
         for name in found:
-            with open(name, "rb") as case:
-                text = case.read()
-            with open(name[:-len(".case")] + ".out", "rb") as out:
-                lines = out.read()
+            text, lines = contents(name), contents(name[:-len(".case")] + ".out")
             self.assertPrints([], text, lines)
             self.assertEqual(lines, replay.report(text), name)
+
+    def test_every_example_of_a_log(self):
+        """CASE.log or CASE.WORDS.log, with what is printed of it beside it."""
+        found = sorted(glob.glob(os.path.join(EXAMPLES, "*.log")))
+        self.assertGreater(len(found), 2)
+        for name in found:
+            of = os.path.join(EXAMPLES, os.path.basename(name).split(".")[0] + ".case")
+            text, log, lines = (contents(path) for path in (of, name, name + ".out"))
+            self.assertEqual(printed(["-q", "log", name], text), (lines, b""), name)
+            self.assertEqual(lines, replay.log_report(text, log), name)
 
 
 class Words(OfTheProgram):
@@ -316,7 +335,7 @@ class InAndOut(OfTheProgram):
         whole = cases.text_of(cases.longest_text_case())
         for text in [b"x" * 60_001, b"\n" * 65_536, whole + b"\n" * 60_001,
                      b"\0" * 1_000_000]:
-            for words in [[], ["counts"], ["slot", "0"], ["write"]]:
+            for words in [[], ["counts"], ["slot", "0"], ["slots"], ["write"]]:
                 self.assertPrints(words, text, b"refused 1 0\n")
 
     def test_just_the_most_in(self):
@@ -378,8 +397,8 @@ class AgainstTheReplay(OfTheProgram):
         self.assertAllPrint(found)
 
     def test_texts_with_words(self):
-        ways = [["counts"], ["write"], ["slot", "0"], ["slot", "3"]]
-        found = [(ways[at % 4], text.data)
+        ways = [["counts"], ["write"], ["slot", "0"], ["slot", "3"], ["slots"]]
+        found = [(ways[at % 5], text.data)
                  for at, text in enumerate(cases.texts("program words", 200))]
         self.assertAllPrint(found)
 
@@ -392,14 +411,14 @@ class AgainstTheReplay(OfTheProgram):
         found = []
         for at, case in enumerate(cases.legal_cases("program words", 160)):
             slot = str(at % (case.end + 2))
-            words = [["counts"], ["write"], ["slot", slot], ["slot", slot]][at % 4]
+            words = [["counts"], ["write"], ["slot", slot], ["slots"]][at % 4]
             found.append((words, cases.text_of(case, with_policy=at % 3 != 0)))
         self.assertAllPrint(found)
 
     def test_large_cases(self):
         found = [(words, cases.text_of(case))
                  for case in cases.large_cases("program", 2)
-                 for words in ([], ["slot", str(case.end // 2)])]
+                 for words in ([], ["slot", str(case.end // 2)], ["slots"])]
         self.assertAllPrint(found)
 
 
