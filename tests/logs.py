@@ -86,7 +86,7 @@ class Careless(Vendor):
     """A kernel that now and then runs any of its jobs."""
 
     def place_in_queue(self, job):
-        return self.careless, super().place_in_queue(job) if not self.careless else self.rng.random()
+        return self.rng.random() if self.careless else super().place_in_queue(job)
 
     def run_first(self, n, t):
         self.careless = self.rng.random() < 0.3
@@ -126,7 +126,7 @@ def is_first(procs, slot):
     It is the rule of request P2, said otherwise than replay.py says it.
     """
     lowest = sorted(slot.present.values())[:procs]
-    return sorted(slot.present.get(task, (True, -1)) for task in slot.ran) == lowest
+    return sorted(slot.present[task] for task in slot.ran) == lowest
 
 
 # ---------------------------------------------------------------------------
@@ -550,10 +550,15 @@ TWO_AND_ONE = cases.Case(1, 0, [4, 2, 4, 4, 1, 4], 4, [0, 1, 0, 2])
 DEMOTED = cases.Case(2, 1, [10, 1, 5, 10, 1, 5, 10, 2, 2], 2, ALL_AT_0)
 DEMOTED_APART = cases.Case(2, 1, [10, 2, 5, 10, 1, 4, 10, 2, 2], 1, ALL_AT_0)
 
-# Jobs of one unit, all released at 0, on two processors, by their deadlines.
+# One processor.  Task 1's count of 5 - 9 div 2 = 1 goes down in slot 0, where it is alone, so that it is still normal at 1.
+ALONE = cases.Case(1, 1, [7, 2, 5, 5, 2, 4], 2, [0, 1, 1, 2])
+
+# Two processors.  Task 1's count of 3 - 8 div 3 = 1 stays in slot 0 with its three jobs, so that it is demoted at 1.
+CROWDED = cases.Case(2, 1, [3, 2, 3, 3, 2, 2, 3, 2, 3], 3, ALL_AT_0)
 
 
 def due(*deadlines):
+    """One slot on two processors, with a job of one unit for each of the deadlines."""
     table = cases.flat((9, 1, deadline) for deadline in deadlines)
     return cases.Case(2, 0, table, 1, cases.flat((0, task) for task in range(1, len(deadlines) + 1)))
 
@@ -568,6 +573,8 @@ def of_accepted():
     yield "two demoted, the lower first", DEMOTED, "slot 0 1 3|slot 1 2 3|"
     yield "two demoted, the higher first", DEMOTED, "slot 0 2 3|slot 1 1 3|"
     yield "two demoted with other deadlines", DEMOTED_APART, "slot 0 2 3|"
+    yield "a free count that went down", ALONE, "slot 0 1|slot 1 1|"
+    yield "a free count that stayed", CROWDED, "slot 0 1 2|slot 1 2 3|slot 2 1 3|"
     yield "a tie of three for one place", due(3, 2, 3, 3), "slot 0 2 4|"
     yield "a tie of four for two places", due(3, 3, 3, 3), "slot 0 2 3|"
 
@@ -618,6 +625,7 @@ def of_18():
     turned = "slot 0 2|slot 1 1|slot 2 2|slot 3|"
     yield "our own set after the tie went the other way", TWO_AND_ONE, turned, 3, "slot 2: task 2 runs without a job"
     yield "nobody after the tie went the other way", TWO_AND_ONE, "slot 0 2|slot 1 1|slot 2|slot 3|", 3, "slot 2: 0 ran of 1 that should"
+    yield "demoted in between", CROWDED, "slot 0 1 2|slot 1 1 2|", 2, f"slot 1: task 3 {normal(3)} waits, task 1 {demoted(3)} runs"
     yield "both demoted", DEMOTED, "slot 0 1 2|slot 1 3|", 1, f"slot 0: task 3 {normal(2)} waits, task 1 {demoted(5)} runs"
     yield "the later of two demoted", DEMOTED_APART, "slot 0 1 3|", 1, f"slot 0: task 2 {demoted(4)} waits, task 1 {demoted(5)} runs"
     yield "the second is too late", due(1, 5, 3), "slot 0 1 2|", 1, f"slot 0: task 3 {normal(3)} waits, task 2 {normal(5)} runs"
