@@ -26,7 +26,8 @@ use Rattle.bridge.specs.Records.{taskAt, good-at, at-first}
 use Rattle.bridge.specs.Turn.{lastPlace, Reached}
 use Rattle.bridge.specs.Events.{turn-event}
 use Rattle.bridge.specs.Notes.{numbers-long, noteTo, Handed, noted-all}
-use Rattle.slot.specs.Stepped.{Stepped, members}
+use Rattle.queue.specs.Queues.{members}
+use Rattle.slot.specs.Stepped.{Stepped}
 use Rattle.notes.specs.Noted.{Roomy, openRecord}
 use Rattle.traces.specs.Traces.{releases}
 use Rattle.traces.specs.Given.{readied-same, rel-at}

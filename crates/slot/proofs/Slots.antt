@@ -2,7 +2,7 @@
 use mathlib.Core.Path.{_≡_, refl, ap, ap₂, sym, _∙_}
 use mathlib.Core.Bool.{Bool, true, false, _&&_}
 use mathlib.Core.List.{List, []}
-use Prim.Native.Nat.{ℕ, _≤_, _<_}
+use Prim.Native.Nat.{ℕ, _<_}
 use native.Mathlib.Omega.{arith}
 use lib.Dec.{leb, ltb}
 use lib.ListN.{getD}
@@ -10,65 +10,33 @@ use borrow.Author.Tests.{ltb-true, ltb-false}
 use Rattle.rules.specs.Words.{pick, bit, tab}
 use Rattle.rules.specs.Limits.{maxTasks}
 use Rattle.rules.specs.Policies.{demoting}
-use Rattle.rules.specs.Slot.{Setup, setupOf, TaskSet, noTask, runOf, withJob, jobAt, isPresent, leftOf, dueOf, kind, present, eachTask}
-use Rattle.rules.specs.Slot.{jobsNow, contentionFree, loweredTask, lowered, opened, jobBefore, comesBefore, rank, chosen, lastUnit}
+use Rattle.rules.specs.Slot.{Setup, setupOf, TaskSet, noTask, runOf, withJob, jobAt, leftOf, present, eachTask}
+use Rattle.rules.specs.Slot.{jobsNow, contentionFree, lowered, opened, jobBefore, comesBefore, rank, chosen, lastUnit}
 use Rattle.rules.specs.Slot.{workedTask, worked, after, ran, finished}
 use Rattle.rules.specs.declared.Job.{Job}
-use Rattle.rules.specs.declared.Job.the-variants.{Idle, Normal, Demoted}
 use Rattle.rules.specs.declared.Task.{Task}
 use Rattle.rules.specs.declared.Run.{Run}
-use Rattle.lists.specs.Lists.{mapAt-at, tab-at, tab-cong}
+use Rattle.lists.specs.Lists.{tab-at, tab-cong}
 use Rattle.lists.specs.Sums.{sum-cong}
 use Rattle.lists.specs.Tests.{and-left}
-use Rattle.lists.specs.Fuse.{fuse, keep-all, same-each}
+use Rattle.lists.specs.Fuse.{fuse, same-each}
 use Rattle.bridge.specs.Steps.{Full, demoted-full, lowered-full, readied-full}
-use Rattle.jobs.specs.Tasks.{loweredIf, workedIf, workedOn}
-use Rattle.queue.specs.Queues.{Chosen}
+use Rattle.jobs.specs.Tasks.{workedIf, workedOn}
+use Rattle.queue.specs.Queues.{members, Chosen}
+use Rattle.queue.specs.Lowered.{Alike, lowersTask, lowersIn, lowered-each, lowered-alike}
 use Rattle.queue.proofs.Choice.{chosen-all}
-use Rattle.slot.specs.Stepped.{members, Among, settledRun, Settles, Works, Worked, Stepped}
+use Rattle.slot.specs.Stepped.{Among, settledRun, Settles, Works, Worked, Stepped}
 use Rattle.slot.proofs.Working.{Left}
 
 -- ---- step 4 keeps what the order and the last unit look at
-record Alike (policy now : ℕ) (j k : Job) : Type 0 where
-  there : isPresent k ≡ isPresent j
-  sort : kind policy now k ≡ kind policy now j
-  due : dueOf k ≡ dueOf j
-  left : leftOf k ≡ leftOf j
-
-alike : (policy now : ℕ) (lowers : Bool) (j : Job) → Alike policy now j (loweredIf lowers j)
-alike policy now false j = record { there = refl; sort = refl; due = refl; left = refl }
-alike policy now true Idle = record { there = refl; sort = refl; due = refl; left = refl }
-alike policy now true (Normal l f d) = record { there = refl; sort = refl; due = refl; left = refl }
-alike policy now true (Demoted l d) = record { there = refl; sort = refl; due = refl; left = refl }
-
 same-before : (policy now : ℕ) (a b a' b' : Job) (j i : ℕ) → Alike policy now a a' → Alike policy now b b'
     → jobBefore policy now a' j b' i ≡ jobBefore policy now a j b i
 unfolding jobBefore
 same-before policy now a b a' b' j i p q = rw (p .there, p .sort, q .sort, p .due, q .due)
 
-abbrev lowersTask : Bool → Task → Task
-lowersTask lowers t = withJob t (loweredIf lowers (t .job))
-
--- whether step 4 lowers the free counts
-abbrev pub lowersIn : Setup → Run → Bool
-lowersIn g d = demoting (g .policy) && contentionFree g d
-
 module _ (g : Setup) (now : ℕ) (d : Run) (h : Full d) where
-  lower : (b : Bool) → pick b (eachTask (λ i t. loweredTask t) d) d ≡ eachTask (λ i t. lowersTask b t) d
-  lower true = refl
-  lower false = sym (ap runOf (keep-all (d .tasks)))
-
-  lowers : lowered g d ≡ eachTask (λ i t. lowersTask (lowersIn g d) t) d
-  unfolding lowered
-  lowers = lower (lowersIn g d)
-
-  lowers-at : (i : ℕ) → i < maxTasks → jobAt (lowered g d) i ≡ loweredIf (lowersIn g d) (jobAt d i)
-  lowers-at i l =
-      ap (λ (x : Run). jobAt x i) lowers ∙ ap (λ (t : Task). t .job)
-      (mapAt-at (λ i t. lowersTask (lowersIn g d) t) (d .tasks) i noTask (omega arith))
-
   kept : (i : ℕ) → i < maxTasks → Alike (g .policy) now (jobAt d i) (jobAt (lowered g d) i)
-  kept i l = rw (lowers-at i l) (alike (g .policy) now (lowersIn g d) (jobAt d i))
+  kept i l = lowered-alike g d h i l now
 
   -- so the same jobs are chosen
   same-chosen : (i : ℕ) → i < maxTasks → chosen g now (lowered g d) i ≡ chosen g now d i
@@ -85,7 +53,7 @@ module _ (g : Setup) (now : ℕ) (d : Run) (h : Full d) where
   works : (runs : TaskSet) → worked runs (lowered g d) ≡ eachTask (λ i t. workedOn (lowersIn g d) (runs i) t) d
   unfolding worked
   works runs =
-      ap (eachTask (λ i t. pick (runs i) (workedTask t) t)) lowers ∙
+      ap (eachTask (λ i t. pick (runs i) (workedTask t) t)) (lowered-each g d) ∙
       ap runOf
       (fuse (λ i t. pick (runs i) (workedTask t) t) (λ i t. lowersTask (lowersIn g d) t) (d .tasks) ∙
       same-each _ (λ i t. workedOn (lowersIn g d) (runs i) t) (d .tasks) noTask

@@ -2,18 +2,13 @@
 -- definitions of "What happens at time t" have it.
 use Prim.Native.Nat.{ℕ, suc, _<_}
 use mathlib.Core.Path.{_≡_}
-use mathlib.Core.Bool.{Bool, true, false, _&&_}
+use mathlib.Core.Bool.{Bool, true, _&&_}
 use mathlib.Core.List.{List}
-use lib.ListN.{getD}
 use Rattle.rules.specs.Words.{tab}
 use Rattle.rules.specs.Limits.{maxTasks}
 use Rattle.rules.specs.Slot.{Setup, TaskSet, setupOf, jobAt, leftOf, isMissed, present, readied, demoted, jobsNow, lowered, lastUnit}
 use Rattle.rules.specs.Slot.{worked, after, ran, finished, missed, demotedNow}
 use Rattle.rules.specs.declared.Run.{Run}
-
--- a set as it stands in an array
-abbrev pub members : List Bool → TaskSet
-members xs i = getD xs i false
 
 -- the run after steps 1 to 3
 abbrev pub settledRun : Setup → ℕ → TaskSet → Run → Run

@@ -1,0 +1,66 @@
+// Whether a set that a log names keeps the rule of a slot: min(m, N) of the jobs present run, and no job that waits comes before one that
+// runs, by kind and then deadline. One pass over the tasks tells it: of all turns it needs the least of a job that waits and the greatest
+// of one that runs.
+ghost use mathlib.Core.Path.{_≡_};
+ghost use mathlib.Core.List.{List};
+ghost use Prim.Native.Nat.{ℕ, min, max};
+ghost use Rattle.rules.specs.Slot.{setupOf, jobsNow};
+ghost use Rattle.rules.specs.Log.{keepsRule};
+ghost use Rattle.queue.specs.Queues.{members};
+use rules::MAX_TASKS;
+use rules::Run;
+
+fn lesser(a: u64, b: u64) -> u64
+    ensures { λ r. ⌜ r ≡ min a b ⌝ }
+{
+    if b < a { b } else { a }
+}
+
+fn greater(a: u64, b: u64) -> u64
+    ensures { λ r. ⌜ r ≡ max a b ⌝ }
+{
+    if a < b { b } else { a }
+}
+
+// The table has no say in it. A turn is below 3 * 2^32, so the largest number stands for no job that waits and 0 for none that runs: no
+// turn is above the one or below the other. Jobs with the same turn may run in either's place.
+pub fn keeps(
+    r: Run,
+    procs: u32,
+    policy: u32,
+    clock: u32,
+    jobs: usize,
+    named: &[bool; MAX_TASKS],
+) -> bool
+    requires { ⌜ jobs ≡ jobsNow r ⌝ }
+    ensures { λ k. ⌜ ((table : List ℕ) → k ≡ keepsRule (setupOf procs policy table) clock r (members (now (named .entry)))) ⌝ }
+{
+    let mut count: u64 = 0;
+    let mut all_there = true;
+    let mut waiting: u64 = 18446744073709551615;
+    let mut running: u64 = 0;
+    let mut i: usize = 0;
+    while i < MAX_TASKS {
+        let t = r.tasks[i];
+        let j = t.job;
+        let there = jobs::has_job(j);
+        if named[i] {
+            count += 1;
+            if there {
+                running = greater(running, queue::turn_of(j, policy, clock));
+            } else {
+                all_there = false;
+            }
+        } else if there {
+            waiting = lesser(waiting, queue::turn_of(j, policy, clock));
+        }
+        i += 1;
+    }
+    if count != lesser(procs as u64, jobs as u64) {
+        return false;
+    }
+    if waiting < running {
+        return false;
+    }
+    all_there
+}
