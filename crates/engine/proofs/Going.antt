@@ -18,7 +18,7 @@ use Rattle.rules.specs.Slot.{TaskSet, Setup, jobAt, isMissed, isDemotedNow, rea
 use Rattle.rules.specs.Slot.{after, ran, finished, missed, demotedNow, jobsNow}
 use Rattle.rules.specs.Replay.{setupIn, releasedAt, fresh, stateFrom, stateAt, ranAt, finishedAt, missedAt, demotedAt, slotsBy}
 use Rattle.rules.specs.Replay.{finishBy, demotionBy, verdictBy, recordBy, numbers}
-use Rattle.lists.specs.Lists.{tab-long, tab-at, tab-cong}
+use Rattle.lists.specs.Lists.{tab-long, tab-at, tab-cong, members}
 use Rattle.bridge.specs.Steps.{Full}
 use Rattle.bridge.specs.Stands.{state-full, state-next}
 use Rattle.legal.specs.Legal.{Legal}
@@ -26,7 +26,6 @@ use Rattle.bridge.specs.Records.{taskAt, good-at, at-first}
 use Rattle.bridge.specs.Turn.{lastPlace, Reached}
 use Rattle.bridge.specs.Events.{turn-event}
 use Rattle.bridge.specs.Notes.{numbers-long, noteTo, Handed, noted-all}
-use Rattle.queue.specs.Queues.{members}
 use Rattle.slot.specs.Stepped.{Stepped}
 use Rattle.notes.specs.Noted.{Roomy, openRecord}
 use Rattle.traces.specs.Traces.{releases}

@@ -157,7 +157,7 @@ opening-small = record { line = tt; count = λ e. omega arith }
 
 -- ---- from the end on
 -- the fault of a line at or past the end does not depend on the run
-past-fault : (c : Case) (n : ℕ) (q r : Run) (h : Heard) → c .end ≤ n → heardFault c n q h ≡ heardFault c n r h
+pub past-fault : (c : Case) (n : ℕ) (q r : Run) (h : Heard) → c .end ≤ n → heardFault c n q h ≡ heardFault c n r h
 unfolding heardFault
 past-fault c n q r h l = rw (le-leb (c .end) n l)
 

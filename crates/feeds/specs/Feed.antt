@@ -321,7 +321,7 @@ pub fed-any-pieces : (c : Case) (ps : List (List ℕ)) → fedAnswer c (feedPiec
 fed-any-pieces c ps = ap (fedAnswer c) (pieces-join c ps opening) ∙ fed-answer c (joinedText ps)
 
 -- ---- once at fault, what is fed does not matter
-byte-stays : (c : Case) (f : Feed) (b : ℕ) → (f .fault .number ≡ 0 → ⊥) → feedByte c f b .fault ≡ f .fault
+pub byte-stays : (c : Case) (f : Feed) (b : ℕ) → (f .fault .number ≡ 0 → ⊥) → feedByte c f b .fault ≡ f .fault
 unfolding feedByte closed
 byte-stays c f b h = picked (λ (g : Feed). g .fault ≡ f .fault) (eqb b newlineByte) _ _ (λ e. next-some (f .fault) _ h) (λ e. refl)
 

@@ -28,7 +28,8 @@ use Rattle.heard.specs.declared.Ended.{Ended}
 use Rattle.heard.specs.declared.Ended.the-variants as Ended·
 use Rattle.heard.specs.declared.Scan.{Scan}
 use Rattle.heard.specs.declared.Scan.the-variants as Scan·
-use Rattle.heard.specs.Scans.{members, wordAt, scanAs, endedAs}
+use Rattle.lists.specs.Lists.{members}
+use Rattle.heard.specs.Scans.{wordAt, scanAs, endedAs}
 
 -- ---- the set
 never-in : (n k i : ℕ) → getD (tab (λ j. false) k n) i false ≡ false

@@ -1,20 +1,16 @@
 -- What the enums of this crate stand for, each with the lent set: a state of the line that is read byte by byte (feeds, LineScan), and
 -- what is heard of a line at its end.
 use Prim.Native.Nat.{ℕ, zero, suc}
-use mathlib.Core.Bool.{Bool, false}
+use mathlib.Core.Bool.{Bool}
 use mathlib.Core.List.{List}
-use lib.ListN.{drop, getD}
-use Rattle.rules.specs.Slot.{TaskSet}
+use lib.ListN.{drop}
+use Rattle.lists.specs.Lists.{members}
 use Rattle.rules.specs.Log.{slotWord}
 use Rattle.feeds.specs.LineScan.{LineScan, unread, wrong, inWord, inTime, inTask, Heard, heardBad, heard}
 use Rattle.heard.specs.declared.Scan.{Scan}
 use Rattle.heard.specs.declared.Scan.the-variants as Scan·
 use Rattle.heard.specs.declared.Ended.{Ended}
 use Rattle.heard.specs.declared.Ended.the-variants as Ended·
-
--- a set as it stands in an array
-abbrev pub members : List Bool → TaskSet
-members xs i = getD xs i false
 
 -- so many bytes of the word were read
 abbrev pub wordAt : ℕ → LineScan

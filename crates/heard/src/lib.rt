@@ -9,7 +9,8 @@ ghost use Rattle.rules.specs.Log.{slotWord};
 ghost use Rattle.feeds.specs.NumScan.{fits, numSoFar, numEnd};
 ghost use Rattle.feeds.specs.LineScan.{isName, withName, inTime, inTask, afterTask, scanByte, heardTime, heardTask, lineEnd, atStart};
 ghost use Rattle.feeds.specs.Bounds.{NumSmall, LineSmall};
-ghost use Rattle.heard.specs.Scans.{members, wordAt, scanAs, endedAs};
+ghost use Rattle.lists.specs.Lists.{members};
+ghost use Rattle.heard.specs.Scans.{wordAt, scanAs, endedAs};
 use rules::MAX_TASKS;
 
 // How far a line is heard: what cannot become a line any more; so many bytes of the word; the time's digits; or a task's, with the time,

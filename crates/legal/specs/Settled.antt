@@ -17,8 +17,11 @@ use Rattle.rules.specs.declared.Taken.{Taken}
 use Rattle.rules.specs.declared.Taken.the-variants as Taken·
 use Rattle.rules.specs.declared.Written.{Written}
 use Rattle.rules.specs.declared.Written.the-variants as Written·
+use Rattle.rules.specs.declared.Logged.{Logged}
+use Rattle.rules.specs.declared.Logged.the-variants as Logged·
 use Rattle.rules.specs.Words.{pick}
 use Rattle.rules.specs.Answers.{Answer, refusal, result, settled, kept, countedAs, replayedAs, runningAs, takenAs, writtenAs}
+use Rattle.rules.specs.Answers.{loggedAs}
 
 -- ---- x is what the checks found: a fault, or none
 module _ (x f : Fault) (e : x ≡ f) where
@@ -102,3 +105,9 @@ written-once (Written·.Refused n p) (Written·.Refused k q) e = cc
 written-once (Written·.Refused n p) (Written·.Text a) e = cc
 written-once (Written·.Text a) (Written·.Refused n p) e = cc
 written-once (Written·.Text a) (Written·.Text b) e = cc
+
+pub logged-once : (x y : Logged) → loggedAs x ≡ loggedAs y → x ≡ y
+logged-once (Logged·.Refused n p) (Logged·.Refused k q) e = cc
+logged-once (Logged·.Refused n p) Logged·.Accepted e = cc
+logged-once Logged·.Accepted (Logged·.Refused n p) e = cc
+logged-once Logged·.Accepted Logged·.Accepted e = refl

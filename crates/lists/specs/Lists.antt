@@ -108,7 +108,11 @@ pub cases : (b : Bool) → (b ≡ true) ⊎ (b ≡ false)
 cases true = inl refl
 cases false = inr refl
 
--- ---- the tasks of a set
+-- ---- sets of tasks
+-- a set as it stands in an array
+abbrev pub members : List Bool → TaskSet
+members xs i = getD xs i false
+
 front-kept : (b : Bool) (x : ℕ) (xs ys : List ℕ) → pick b (x ∷ (xs ++ ys)) (xs ++ ys) ≡ pick b (x ∷ xs) xs ++ ys
 front-kept true x xs ys = refl
 front-kept false x xs ys = refl

@@ -42,12 +42,6 @@ module _ (g : Setup) (now : ℕ) (r s : Run) (runs others : TaskSet)
       (holds-same _ _ maxTasks (λ i l. ap₂ (λ a b. not a || b) (same i l) (there-same i l))))
       (holds-same _ _ maxTasks (λ j l. holds-same _ _ maxTasks (λ i k. ap not (wronged-same j i l k))))
 
--- a set with the same members
-pub keeps-same : (g : Setup) (now : ℕ) (r : Run) (runs others : TaskSet) → ((i : ℕ) → i < maxTasks → others i ≡ runs i)
-    → keepsRule g now r others ≡ keepsRule g now r runs
-keeps-same g now r runs others same =
-    keeps-alike g now r r runs others (λ i l. record { there = refl; sort = refl; due = refl; left = refl }) same
-
 -- a run before step 4 and after it
 pub keeps-lowered : (g : Setup) (now : ℕ) (r : Run) (runs : TaskSet) → length (r .tasks) ≡ maxTasks
     → keepsRule g now (lowered g r) runs ≡ keepsRule g now r runs

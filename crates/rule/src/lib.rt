@@ -6,7 +6,7 @@ ghost use mathlib.Core.List.{List};
 ghost use Prim.Native.Nat.{ℕ, min, max};
 ghost use Rattle.rules.specs.Slot.{setupOf, jobsNow};
 ghost use Rattle.rules.specs.Log.{keepsRule};
-ghost use Rattle.queue.specs.Queues.{members};
+ghost use Rattle.lists.specs.Lists.{members};
 use rules::MAX_TASKS;
 use rules::Run;
 

@@ -16,13 +16,13 @@ use Rattle.rules.specs.Slot.{workedTask, worked, after, ran, finished}
 use Rattle.rules.specs.declared.Job.{Job}
 use Rattle.rules.specs.declared.Task.{Task}
 use Rattle.rules.specs.declared.Run.{Run}
-use Rattle.lists.specs.Lists.{tab-at, tab-cong}
+use Rattle.lists.specs.Lists.{tab-at, tab-cong, members}
 use Rattle.lists.specs.Sums.{sum-cong}
 use Rattle.lists.specs.Tests.{and-left}
 use Rattle.lists.specs.Fuse.{fuse, same-each}
 use Rattle.bridge.specs.Steps.{Full, demoted-full, lowered-full, readied-full}
 use Rattle.jobs.specs.Tasks.{workedIf, workedOn}
-use Rattle.queue.specs.Queues.{members, Chosen}
+use Rattle.queue.specs.Queues.{Chosen}
 use Rattle.queue.specs.Lowered.{Alike, lowersTask, lowersIn, lowered-each, lowered-alike}
 use Rattle.queue.proofs.Choice.{chosen-all}
 use Rattle.slot.specs.Stepped.{Among, settledRun, Settles, Works, Worked, Stepped}

@@ -2,7 +2,7 @@
 use borrow.Author.Needs.{needs}
 use mathlib.Core.Path.{sym, ap, _∙_}
 use Rattle.feeds.specs.LineScan.{heardTask}
-use Rattle.heard.specs.Scans.{members}
+use Rattle.lists.specs.Lists.{members}
 use Rattle.heard.proofs.Scanning.{num-none, num-some}
 use Rattle.heard.proofs.end_task.Statement.{statement}
 use Rattle.heard.proofs.end_task.Tie as tie

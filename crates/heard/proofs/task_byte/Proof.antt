@@ -1,7 +1,7 @@
 -- `heard::task_byte` meets its contract.
 use borrow.Author.Needs.{needs}
 use mathlib.Core.Path.{_≡_, sym, ap, _∙_}
-use Rattle.heard.specs.Scans.{members}
+use Rattle.lists.specs.Lists.{members}
 use Rattle.heard.proofs.Scanning.{task-tab, task-on, task-wrong, fits-digit, small-worth}
 use Rattle.heard.proofs.task_byte.Statement.{statement}
 use Rattle.heard.proofs.task_byte.Tie as tie

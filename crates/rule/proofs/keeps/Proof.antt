@@ -6,7 +6,7 @@ use Prim.Native.Nat.{_-_}
 use native.Mathlib.Omega.{arith}
 use Rattle.rules.specs.Limits.{maxTasks}
 use Rattle.rules.specs.Slot.{setupOf}
-use Rattle.queue.specs.Queues.{members}
+use Rattle.lists.specs.Lists.{members}
 use Rattle.rule.proofs.Passing.{Passing, passing-none, passing-runs, passing-absent, passing-waits, passing-idle, passing-few}
 use Rattle.rule.proofs.Passing.{wrong-number, wrong-order, right-order}
 use Rattle.rule.proofs.keeps.Statement.{statement}
