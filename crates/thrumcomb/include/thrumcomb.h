@@ -1,10 +1,11 @@
 /*
- * Thrumcomb for C: the five public calls of libthrumcomb.a (made by `rt staticlib thrumcomb`, for x86-64 Linux).
+ * Thrumcomb for C: the six public calls of libthrumcomb.a (made by `rt staticlib thrumcomb`, for x86-64 Linux).
  *
  * What every call does
  *
  *   It returns 0, or the number of a refusal from the table below.
- *   On 0 it has written its values to `results` and what it puts out to the lent rooms; `*place` is unchanged.
+ *   On 0 it has written its values to `results` and what it puts out to the lent rooms; `*place` is unchanged. (The log check has
+ *   neither.)
  *   On a refusal it has written the refusal's place to `*place`, and nothing else is changed: `results` and every lent number and
  *   byte keep the content they had.
  *   What stands in a room after the numbers or bytes put out is unchanged too.
@@ -46,10 +47,15 @@
  *   14   policy not 0 or 1                                              0
  *   15   the named slot is not below end                                0
  *   16   a task without a release                                       the lowest such task
+ *   17   a line of a slot log is badly formed, its tasks do not rise,   the line
+ *        or its time is not the number of lines before it
+ *   18   a slot of a log, before end, breaks the rule                   the line
+ *   19   the number of lines of a log is not end                        0
  *
  *   Lines, tasks and releases count from 1. Of several, the first in this order is given: 4, 14, 5, 6, 7, 12, then release by release
  *   8, 11, 9, 10, then 16, then 13, then 15. The reader tests its rooms (13) first, then 1, then the smallest line at fault (2 before 3
  *   on one line), then the order above. 16 is made by every call that takes a trace, so with no release, or end 0, each of them refuses.
+ *   The log check makes the order above but 13 and 15; then line by line 17 and, where the time is before end, 18; last 19.
  */
 #ifndef THRUMCOMB_H
 #define THRUMCOMB_H
@@ -133,6 +139,20 @@ uint32_t thrumcomb_write(
     const uint32_t *trace, size_t trace_length,
     uint8_t *out, size_t out_length,
     size_t results[1],
+    uint32_t *place);
+
+/*
+ * The check of a slot log: one line a slot, `slot`, the time, then the running tasks in rising order, parted by one tab each and ended
+ * by a newline; numbers as in a case text. Accepted (0) exactly if there are end lines and in every slot, the state following the log,
+ * min(m, N) of the N present jobs run and none that waits comes strictly before one that runs, normal before demoted and then by
+ * deadline; equal deadlines may go either way. Refusals 4 to 12, 14, 16, 17, 18, 19. The log may be of any length and content.
+ */
+uint32_t thrumcomb_check_log(
+    uint32_t procs, uint32_t policy,
+    const uint32_t *table, size_t table_length,
+    uint32_t end,
+    const uint32_t *trace, size_t trace_length,
+    const uint8_t *log, size_t log_length,
     uint32_t *place);
 
 #ifdef __cplusplus

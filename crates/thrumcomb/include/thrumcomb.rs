@@ -1,7 +1,7 @@
-//! Thrumcomb for Rust: the five public calls of libthrumcomb.a (made by `rt staticlib thrumcomb`, for x86-64 Linux), declared, and for
+//! Thrumcomb for Rust: the six public calls of libthrumcomb.a (made by `rt staticlib thrumcomb`, for x86-64 Linux), declared, and for
 //! each a safe function. thrumcomb.h beside this file says what is lent, what is returned, and what each refusal means.
 
-/// A refusal: its number, 1 to 16, and its place. Every lent number and byte keeps the content it had.
+/// A refusal: its number, 1 to 19, and its place. Every lent number and byte keeps the content it had.
 #[derive(Clone, Copy, Debug, PartialEq, Eq)]
 pub struct Refusal {
     pub number: u32,
@@ -104,6 +104,19 @@ mod raw {
             out: *mut u8,
             out_length: usize,
             results: *mut [usize; 1],
+            place: *mut u32,
+        ) -> u32;
+
+        pub fn thrumcomb_check_log(
+            procs: u32,
+            policy: u32,
+            table: *const u32,
+            table_length: usize,
+            end: u32,
+            trace: *const u32,
+            trace_length: usize,
+            log: *const u8,
+            log_length: usize,
             place: *mut u32,
         ) -> u32;
     }
@@ -228,4 +241,25 @@ pub fn write(case: Case<'_>, out: &mut [u8]) -> Result<usize, Refusal> {
         )
     };
     told(number, results, place).map(|[length]| length)
+}
+
+/// The check of a slot log; there is nothing to return but that it is accepted.
+pub fn check_log(case: Case<'_>, log: &[u8]) -> Result<(), Refusal> {
+    let mut place = 0;
+    // SAFETY: as in `counts`.
+    let number = unsafe {
+        raw::thrumcomb_check_log(
+            case.procs,
+            case.policy,
+            case.table.as_ptr(),
+            case.table.len(),
+            case.end,
+            case.trace.as_ptr(),
+            case.trace.len(),
+            log.as_ptr(),
+            log.len(),
+            &mut place,
+        )
+    };
+    told(number, [], place).map(|[]| ())
 }

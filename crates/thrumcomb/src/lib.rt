@@ -1,8 +1,10 @@
 // The public calls for C and Rust. Each returns 0 or a refusal's number; `results` is changed by a result alone and `place` by a
 // refusal alone. A slice is passed as a pointer and then a length. include/thrumcomb.h says the same to a C program.
+ghost use mathlib.Core.List.{[]};
 ghost use Rattle.rules.specs.Case.{caseOf};
-ghost use Rattle.rules.specs.Told.{seen, CountsTold, ReplayTold, RunningTold, ReadTold, WriteTold};
+ghost use Rattle.rules.specs.Told.{seen, CountsTold, ReplayTold, RunningTold, ReadTold, WriteTold, LogTold};
 use rules::Counted;
+use rules::Logged;
 use rules::Replayed;
 use rules::Running;
 use rules::Taken;
@@ -145,5 +147,29 @@ pub extern "C" fn thrumcomb_write(
             *results = [length];
             0
         }
+    }
+}
+
+// The check of a slot log. There is no result: 0 says that the log is accepted.
+#[no_mangle]
+pub extern "C" fn thrumcomb_check_log(
+    procs: u32,
+    policy: u32,
+    table: &[u32],
+    end: u32,
+    trace: &[u32],
+    log: &[u8],
+    place: &mut u32,
+) -> u32
+    ensures { λ r. ⌜ LogTold (caseOf procs policy (now (table .entry)) end (now (trace .entry))) (now (log .entry))
+        (seen r (now (place .entry)) (now (place .exit)) [] []) ⌝ }
+{
+    let answer = follow::check_log(procs, policy, table, end, trace, log);
+    match answer {
+        Logged::Refused { number, place: at } => {
+            *place = at;
+            number
+        }
+        Logged::Accepted => 0,
     }
 }
