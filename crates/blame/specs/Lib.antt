@@ -1,1 +1,2 @@
 pub mod Blames
+pub mod Agrees
