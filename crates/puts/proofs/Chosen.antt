@@ -46,7 +46,7 @@ unfolding wordOf
 word-short w = no-longer lineWords w runWord
 
 -- where it is none of the others
-pub word-last : (w : ℕ) → Outside 10 w → wordOf w ≡ runWord
+pub word-last : (w : ℕ) → Outside 11 w → wordOf w ≡ runWord
 unfolding wordOf
 word-last zero o = refl
-word-last (suc w) o = List·getD-eq-default lineWords runWord (above 10 (suc w) (omega arith) o)
+word-last (suc w) o = List·getD-eq-default lineWords runWord (above 11 (suc w) (omega arith) o)

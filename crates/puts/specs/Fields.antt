@@ -6,6 +6,7 @@ use lib.ListN.{getD}
 use Rattle.rules.specs.Text.{digitsOf, procsWord, policyWord, taskWord, endWord, releaseWord}
 use Rattle.rules.specs.Writer.{lineText}
 use Rattle.rules.specs.Report.{runWord, jobWord, totalWord, refusedWord}
+use Rattle.rules.specs.Log.{slotWord}
 
 -- fields, each with the byte `between` in front
 unfoldable pub fieldsText : ℕ → List (List ℕ) → List ℕ
@@ -23,13 +24,13 @@ countWord = 99 ∷ 111 ∷ 117 ∷ 110 ∷ 116 ∷ []
 abbrev pub runningWord : List ℕ
 runningWord = 114 ∷ 117 ∷ 110 ∷ 110 ∷ 105 ∷ 110 ∷ 103 ∷ []
 
--- the words of lines in their order: 1 to 5 in the case text, as `wordKind` of rules has them, 6 to 10 in what is printed
+-- the words of lines in their order: 1 to 5 in the case text, as `wordKind` of rules has them, 6 to 10 in what is printed, 11 in a slot log
 abbrev pub lineWords : List (List ℕ)
 lineWords =
     runWord ∷ procsWord ∷ policyWord ∷ taskWord ∷ endWord ∷ releaseWord ∷
-    jobWord ∷ totalWord ∷ refusedWord ∷ countWord ∷ runningWord ∷ []
+    jobWord ∷ totalWord ∷ refusedWord ∷ countWord ∷ runningWord ∷ slotWord ∷ []
 
--- the word of a line by its number; it is `run` for 11 and every other
+-- the word of a line by its number; it is `run` for 12 and every other
 unfoldable pub wordOf : ℕ → List ℕ
 wordOf w = getD lineWords w runWord
 

@@ -12,7 +12,7 @@ use rules::PROCS;
 use rules::RELEASE;
 use rules::TASK;
 
-// The numbers of the words of what is printed, behind those of the case text (rules, `PROCS` to `RELEASE`).
+// The numbers of the words of what is printed, behind those of the case text (rules, `PROCS` to `RELEASE`); `SLOT` is a slot log's.
 pub const JOB: u32 = 6;
 
 pub const TOTAL: u32 = 7;
@@ -23,7 +23,9 @@ pub const COUNT: u32 = 9;
 
 pub const RUNNING: u32 = 10;
 
-pub const RUN: u32 = 11;
+pub const SLOT: u32 = 11;
+
+pub const RUN: u32 = 12;
 
 // The bytes that part the fields of the case text and of what is printed.
 pub const TAB: u8 = b'\t';
@@ -126,6 +128,7 @@ pub fn put_word(out: &mut [u8], word: u32) -> usize
         REFUSED => put_bytes(out, 0, b"refused"),
         COUNT => put_bytes(out, 0, b"count"),
         RUNNING => put_bytes(out, 0, b"running"),
+        SLOT => put_bytes(out, 0, b"slot"),
         _ => put_bytes(out, 0, b"run"),
     }
 }

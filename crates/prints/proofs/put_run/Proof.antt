@@ -17,13 +17,13 @@ use Rattle.prints.proofs.put_run.Statement.{statement}
 use Rattle.prints.proofs.put_run.Tie as tie
 
 put-word-requires : tie.Need-put-word-requires
-put-word-requires c κs = omega (arith, word-short 11)
+put-word-requires c κs = omega (arith, word-short 12)
 
 -- how far the line has come, and that the room is what it was
 worded : (c : tie.After-put-word) → (c .put-word .result ≤ 7) × (lineRoom ≤ length (c .put-word .last .0))
 worded c =
     let put = c .put-word in
-    omega (arith, put .ensures .behind, put .kept .0, word-short 11)
+    omega (arith, put .ensures .behind, put .kept .0, word-short 12)
 
 put-policy-requires : tie.Need-put-policy-requires
 put-policy-requires c κs =

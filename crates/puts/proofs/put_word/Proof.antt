@@ -69,15 +69,21 @@ slice-aggregate-put-bytes-10 c = search needs
 put-bytes-requires-10 : tie.Need-put-bytes-requires-10
 put-bytes-requires-10 c κs = word-room 10 (c .before .before .match .keys10) (search needs)
 
--- the last arm: the number is none of the others
-run : (c : tie.After-put-bytes-arg22) → wordOf (c .before .before .before .before .args .word) ≡ runWord
-run c = word-last _ (c .before .before .match .rest)
-
 slice-aggregate-put-bytes-11 : tie.Need-slice-aggregate-put-bytes-11
 slice-aggregate-put-bytes-11 c = search needs
 
 put-bytes-requires-11 : tie.Need-put-bytes-requires-11
-put-bytes-requires-11 c κs = omega (arith, ap length (run c))
+put-bytes-requires-11 c κs = word-room 11 (c .before .before .match .keys11) (search needs)
+
+-- the last arm: the number is none of the others
+run : (c : tie.After-put-bytes-arg24) → wordOf (c .before .before .before .before .args .word) ≡ runWord
+run c = word-last _ (c .before .before .match .rest)
+
+slice-aggregate-put-bytes-12 : tie.Need-slice-aggregate-put-bytes-12
+slice-aggregate-put-bytes-12 c = search needs
+
+put-bytes-requires-12 : tie.Need-put-bytes-requires-12
+put-bytes-requires-12 c κs = omega (arith, ap length (run c))
 
 same-length : tie.Need-same-length
 same-length c = search needs
@@ -143,7 +149,13 @@ same-length-11 : tie.Need-same-length-11
 same-length-11 c = search needs
 
 returns-11 : tie.Need-returns-11
-returns-11 c = rw (run (c .before .before .before)) (c .before .before .put-bytes11 .ensures)
+returns-11 c = word-laid 11 (search needs) (c .before .before .put-bytes11 .ensures)
+
+same-length-12 : tie.Need-same-length-12
+same-length-12 c = search needs
+
+returns-12 : tie.Need-returns-12
+returns-12 c = rw (run (c .before .before .before)) (c .before .before .put-bytes12 .ensures)
 
 pub put-word-spec : {M : Type 1} → statement M
 put-word-spec =
@@ -171,6 +183,8 @@ put-word-spec =
     put-bytes-requires-10
     slice-aggregate-put-bytes-11
     put-bytes-requires-11
+    slice-aggregate-put-bytes-12
+    put-bytes-requires-12
     same-length
     returns
     same-length-2
@@ -192,4 +206,6 @@ put-word-spec =
     same-length-10
     returns-10
     same-length-11
-    returns-11)
+    returns-11
+    same-length-12
+    returns-12)
