@@ -3,6 +3,7 @@ use mathlib.Core.Path.{_≡_, refl, sym, ap, _∙_}
 use mathlib.Core.Bool.{Bool, true, false}
 use mathlib.Core.List.{List, [], _∷_, _++_, map, append-nil}
 use Prim.Native.Nat.{ℕ, zero, suc, _+_, _-_, _/_, _%_, _≤_}
+use native.Mathlib.Nat.{zero-add}
 use native.Mathlib.Numerals.{add-one}
 use native.Mathlib.Omega.{arith}
 use lib.Dec.{eqb}
@@ -11,15 +12,18 @@ use lib.Seq.{sets-eq, take-at}
 use Rattle.rules.specs.Words.{pick}
 use Rattle.rules.specs.Limits.{maxTasks}
 use Rattle.rules.specs.Case.{Case, taskCount, releaseCount}
+use Rattle.rules.specs.Slot.{TaskSet, tasksFrom}
 use Rattle.rules.specs.Replay.{Record, metJobs, missedJobs, openJobs}
 use Rattle.rules.specs.Text.{newlineByte, digitsOf}
 use Rattle.rules.specs.Writer.{lineText, moreFields}
 use Rattle.rules.specs.Report.{spaceByte, jobWord, metWord, missedWord, openWord, verdictName, finishField, demotionField, runLine}
 use Rattle.rules.specs.Report.{jobLine}
 use Rattle.rules.specs.Report.{totalLine}
+use Rattle.lists.specs.Lists.{tasks-more}
 use Rattle.texts.specs.Digits.{at-most-ten}
 use Rattle.puts.specs.Laid.{Laid}
 use Rattle.puts.specs.Fields.{fieldsText, numberFields, numberLine, wordOf}
+use Rattle.puts.proofs.Puts.{laid-none}
 use Rattle.puts.proofs.Chosen.{word-short}
 use Rattle.puts.proofs.Lines.{line-length, numbers-room, fields-then}
 use Rattle.prints.specs.Lines.{lineRoom, Printed, outcomeRoom, outcomeFields, runText, totalText, halved, memberAt, membersOf}
@@ -34,18 +38,18 @@ unfolding totalLine totalText
 total-is c = refl
 
 -- ---- no line is too long: the longest is of a slot and every task
-line-short : (word : ℕ) (vs : List ℕ) → length vs ≤ maxTasks + 1 → length (numberLine spaceByte word vs) ≤ lineRoom
-line-short word vs h =
-    omega (arith, line-length spaceByte (wordOf word) (map digitsOf vs), word-short word, numbers-room spaceByte vs)
+line-short : (b word : ℕ) (vs : List ℕ) → length vs ≤ maxTasks + 1 → length (numberLine b word vs) ≤ lineRoom
+line-short b word vs h =
+    omega (arith, line-length b (wordOf word) (map digitsOf vs), word-short word, numbers-room b vs)
 
 -- so it fits where a line has room, and is printed once it is laid
-module _ (word : ℕ) (vs : List ℕ) where
-  pub line-within : {n : ℕ} → length vs ≤ maxTasks + 1 → lineRoom ≤ n → length (numberLine spaceByte word vs) ≤ n
-  line-within h r = omega (arith, line-short word vs h)
+module _ (b word : ℕ) (vs : List ℕ) where
+  pub line-within : {n : ℕ} → length vs ≤ maxTasks + 1 → lineRoom ≤ n → length (numberLine b word vs) ≤ n
+  line-within h r = omega (arith, line-short b word vs h)
 
-  pub line-printed : {old new : List ℕ} {n : ℕ} → length vs ≤ maxTasks + 1 → Laid 0 (numberLine spaceByte word vs) old new n
-      → Printed lineRoom (numberLine spaceByte word vs) old new n
-  line-printed h p = record { laid = p; short = omega (arith, p .behind, line-short word vs h) }
+  pub line-printed : {old new : List ℕ} {n : ℕ} → length vs ≤ maxTasks + 1 → Laid 0 (numberLine b word vs) old new n
+      → Printed lineRoom (numberLine b word vs) old new n
+  line-printed h p = record { laid = p; short = omega (arith, p .behind, line-short b word vs h) }
 
 pub verdict-room : (v : ℕ) → length (verdictName v) ≤ 6
 unfolding verdictName
@@ -133,7 +137,24 @@ members-few s (suc n) = omega (arith, members-few s n, length-append (membersOf 
     one true = omega arith
     one false = omega arith
 
--- the numbers of a running line: the slot, and behind it the tasks
+-- the tasks of a set that is not a number: nothing is laid of the first none
+pub tasks-none : (s : TaskSet) (at : ℕ) (old : List ℕ) → Laid at (tasksFrom s 0 0) old old at
+unfolding tasksFrom
+tasks-none s at old = laid-none at old
+
+pub tasks-suc : (s : TaskSet) (i : ℕ) → tasksFrom s 0 (i + 1) ≡ tasksFrom s 0 i ++ pick (s i) ((i + 1) ∷ []) []
+tasks-suc s i = rw (add-one i, tasks-more s 0 i, zero-add i)
+
+pub tasks-few : (s : TaskSet) (k n : ℕ) → length (tasksFrom s k n) ≤ n
+unfolding tasksFrom
+tasks-few s k zero = omega arith
+tasks-few s k (suc n) = one (s k) (tasksFrom s (suc k) n) (tasks-few s (suc k) n)
+  where
+    one : (b : Bool) (ts : List ℕ) → length ts ≤ n → length (pick b (suc k ∷ ts) ts) ≤ suc n
+    one true ts h = omega (arith, h)
+    one false ts h = omega (arith, h)
+
+-- the numbers of the line of a slot: the slot, and behind it the tasks
 pub slot-first : (slot : ℕ) (tasks rest new : List ℕ) (n : ℕ) → length tasks ≤ length rest → Laid 1 tasks (slot ∷ rest) new n
     → take (n - 0) new ≡ slot ∷ tasks
 slot-first slot tasks rest new n h p =

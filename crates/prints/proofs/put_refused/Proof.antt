@@ -4,7 +4,7 @@ use Prim.Native.Nat.{ℕ}
 use native.Mathlib.Omega.{arith}
 use borrow.Author.Needs.{needs}
 use Rattle.puts.specs.Fields.{wordOf}
-use Rattle.rules.specs.Report.{refusedLine}
+use Rattle.rules.specs.Report.{spaceByte, refusedLine}
 use Rattle.prints.proofs.Lines.{line-within, line-printed}
 use Rattle.prints.proofs.put_refused.Statement.{statement}
 use Rattle.prints.proofs.put_refused.Tie as tie
@@ -15,13 +15,13 @@ numbers c = c .args .number ∷ c .args .place ∷ []
 -- what is said, first: the room is the same whatever the numbers are
 returns : tie.Need-returns
 unfolding wordOf refusedLine
-returns c = line-printed 8 (numbers (c .before .before .before .before .before .before)) (omega arith) (search needs)
+returns c = line-printed spaceByte 8 (numbers (c .before .before .before .before .before .before)) (omega arith) (search needs)
 
 slice-aggregate-put-line : tie.Need-slice-aggregate-put-line
 slice-aggregate-put-line c = search needs
 
 put-line-requires : tie.Need-put-line-requires
-put-line-requires c κs = line-within 8 (numbers (c .before .before .before)) (omega arith) (search needs)
+put-line-requires c κs = line-within spaceByte 8 (numbers (c .before .before .before)) (omega arith) (search needs)
 
 same-length : tie.Need-same-length
 same-length c = search needs

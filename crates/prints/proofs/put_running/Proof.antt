@@ -6,6 +6,7 @@ use borrow.Author.Needs.{needs}
 use native.Mathlib.Omega.{arith}
 use lib.ListN.{take}
 use Rattle.rules.specs.Limits.{maxTasks}
+use Rattle.rules.specs.Report.{spaceByte}
 use Rattle.puts.specs.Fields.{wordOf}
 use Rattle.prints.specs.Lines.{membersOf, runningLine}
 use Rattle.prints.proofs.Lines.{line-within, line-printed, members-few, slot-first}
@@ -41,14 +42,16 @@ unfolding wordOf runningLine
 returns c =
     let put = c .before .before .put-line in
     let start = c .before .before .before .before .before .before .before .before .before .before in
-    line-printed 10 (start .args .slot ∷ membersOf (start .args .set) maxTasks) (omega (arith, members-few (start .args .set) maxTasks))
+    line-printed spaceByte 10 (start .args .slot ∷ membersOf (start .args .set) maxTasks)
+    (omega (arith, members-few (start .args .set) maxTasks))
     (rw (numbers (c .before .before .before .before .before .before .before)) at (put .ensures))
 
 put-line-requires : tie.Need-put-line-requires
 put-line-requires c κs =
     let start = c .before .before .before .before .before .before .before in
     rw (numbers (c .before .before .before .before))
-    (line-within 10 (start .args .slot ∷ membersOf (start .args .set) maxTasks) (omega (arith, members-few (start .args .set) maxTasks))
+    (line-within spaceByte 10 (start .args .slot ∷ membersOf (start .args .set) maxTasks)
+    (omega (arith, members-few (start .args .set) maxTasks))
     (start .pre))
 
 same-length : tie.Need-same-length

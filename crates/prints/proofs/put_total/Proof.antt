@@ -3,6 +3,7 @@ use mathlib.Core.List.{List, [], _∷_}
 use Prim.Native.Nat.{ℕ}
 use native.Mathlib.Omega.{arith}
 use borrow.Author.Needs.{needs}
+use Rattle.rules.specs.Report.{spaceByte}
 use Rattle.puts.specs.Fields.{wordOf}
 use Rattle.prints.specs.Lines.{totalText}
 use Rattle.prints.proofs.Lines.{line-within, line-printed}
@@ -15,13 +16,13 @@ numbers c = c .args .releases ∷ c .args .met ∷ c .args .missed ∷ c .args .
 -- what is said, first: the room is the same whatever the numbers are
 returns : tie.Need-returns
 unfolding wordOf totalText
-returns c = line-printed 7 (numbers (c .before .before .before .before .before .before)) (omega arith) (search needs)
+returns c = line-printed spaceByte 7 (numbers (c .before .before .before .before .before .before)) (omega arith) (search needs)
 
 slice-aggregate-put-line : tie.Need-slice-aggregate-put-line
 slice-aggregate-put-line c = search needs
 
 put-line-requires : tie.Need-put-line-requires
-put-line-requires c κs = line-within 7 (numbers (c .before .before .before)) (omega arith) (search needs)
+put-line-requires c κs = line-within spaceByte 7 (numbers (c .before .before .before)) (omega arith) (search needs)
 
 same-length : tie.Need-same-length
 same-length c = search needs
