@@ -1,6 +1,6 @@
 -- The loop over the slots, apart from the code: what one slot more gives, and how the records go on with it.
 use mathlib.Core.Path.{_≡_, refl, ap, sym, _∙_}
-use mathlib.Core.Bool.{Bool, true, false, _&&_}
+use mathlib.Core.Bool.{Bool, true, false}
 use mathlib.Core.List.{List, _++_}
 use Prim.Native.Nat.{ℕ, suc, _+_, _-_, _*_, min, _≤_, _<_}
 use native.Mathlib.Numerals.{add-one}
@@ -13,14 +13,10 @@ use Rattle.rules.specs.declared.Run.{Run}
 use Rattle.rules.specs.Words.{tab, firstIn}
 use Rattle.rules.specs.Limits.{maxTasks, recordWidth}
 use Rattle.rules.specs.Case.{Case, deadline, releaseCount, timeOf}
-use Rattle.rules.specs.Policies.{demoting}
-use Rattle.rules.specs.Slot.{TaskSet, Setup, jobAt, isMissed, isDemotedNow, readied, demoted, lowered, opened}
-use Rattle.rules.specs.Slot.{after, ran, finished, missed, demotedNow, jobsNow}
+use Rattle.rules.specs.Slot.{jobAt, isMissed, missed}
 use Rattle.rules.specs.Replay.{setupIn, releasedAt, fresh, stateFrom, stateAt, ranAt, finishedAt, missedAt, demotedAt, slotsBy}
 use Rattle.rules.specs.Replay.{finishBy, demotionBy, verdictBy, recordBy, numbers}
 use Rattle.lists.specs.Lists.{tab-long, tab-at, tab-cong, members}
-use Rattle.bridge.specs.Steps.{Full}
-use Rattle.bridge.specs.Stands.{state-full, state-next}
 use Rattle.legal.specs.Legal.{Legal}
 use Rattle.bridge.specs.Records.{taskAt, good-at, at-first}
 use Rattle.bridge.specs.Turn.{lastPlace, Reached}
@@ -29,7 +25,7 @@ use Rattle.bridge.specs.Notes.{numbers-long, noteTo, Handed, noted-all}
 use Rattle.slot.specs.Stepped.{Stepped}
 use Rattle.notes.specs.Noted.{Roomy, openRecord}
 use Rattle.traces.specs.Traces.{releases}
-use Rattle.traces.specs.Given.{readied-same, rel-at}
+use Rattle.traces.specs.Step.{same-step, next-run}
 use Rattle.engine.specs.Walks.{places, Rests, LastRan, roomAt}
 use Rattle.engine.proofs.Quiet.{Walking, none-left, still-walking, still-ran, still-records}
 
@@ -57,62 +53,26 @@ pub last-ran : (c : Case) (t : ℕ) (rs : List Bool) → rs ≡ tab (ranAt c t) 
 last-ran c t rs h k e = let z : t ≡ k = omega (arith, e) in rw (← z) h
 
 -- ---- one slot
--- a slot goes by its set's members below 32 only
-module _ (g : Setup) (now : ℕ) (s u : TaskSet) (r : Run) (f : Full r) (h : (i : ℕ) → i < maxTasks → s i ≡ u i) where
-  readied-here : readied g now s r ≡ readied g now u r
-  readied-here = readied-same g now s u r f h
-
-  opened-same : opened g now s r ≡ opened g now u r
-  unfolding opened
-  opened-same = ap (λ (x : Run). lowered g (demoted g x)) readied-here
-
-  after-same : after g now s r ≡ after g now u r
-  unfolding after
-  after-same = rw opened-same
-
-  ran-same : (i : ℕ) → ran g now s r i ≡ ran g now u r i
-  unfolding ran
-  ran-same i = rw opened-same
-
-  finished-same : (i : ℕ) → finished g now s r i ≡ finished g now u r i
-  unfolding finished
-  finished-same i = rw (ran-same i, opened-same)
-
-  demoted-same : (i : ℕ) → demotedNow g now s r i ≡ demotedNow g now u r i
-  unfolding demotedNow
-  demoted-same i = ap (λ (x : Run). demoting (g .policy) && isDemotedNow (jobAt x i)) readied-here
-
-  stepped-same : (run : Run) (n : ℕ) (ms ds rs fs ls : List Bool) → Stepped g now s r run n ms ds rs fs ls
-      → Stepped g now u r run n ms ds rs fs ls
-  unfolding missed
-  stepped-same run n ms ds rs fs ls q = record {
-    run = q .run ∙ after-same;
-    jobs = q .jobs ∙ ap (λ (x : Run). jobsNow (demoted g x)) readied-here;
-    missed = q .missed;
-    demoted = q .demoted ∙ tab-cong _ _ 0 maxTasks (λ i x y. demoted-same i);
-    ran = q .ran ∙ tab-cong _ _ 0 maxTasks (λ i x y. ran-same i);
-    finished = q .finished ∙ tab-cong _ _ 0 maxTasks (λ i x y. finished-same i);
-    missed-next = q .missed-next;
-  }
-
 module _ (c : Case) (clock : ℕ) (rel : List Bool) (re : rel ≡ releases (c .trace) (releaseCount (c .trace)) clock) where
   module _ (run : Run) (e : run ≡ stateAt c clock) (run′ : Run) (jobs : ℕ) (ms ds rs fs ls : List Bool)
       (q : Stepped (setupIn c) clock (members rel) run run′ jobs ms ds rs fs ls) where
     -- it is the slot of the case
-    same-step : Stepped (setupIn c) clock (releasedAt c clock) (stateAt c clock) run′ jobs ms ds rs fs ls
-    same-step = stepped-same (setupIn c) clock (members rel) (releasedAt c clock) (stateAt c clock)
-        (state-full c clock) (rel-at c clock rel re) run′ jobs ms ds rs fs ls (rw e at q)
-
-    next-run : run′ ≡ stateAt c (suc clock)
-    next-run = same-step .run ∙ sym (state-next c clock)
+    slot-here : Stepped (setupIn c) clock (releasedAt c clock) (stateAt c clock) run′ jobs ms ds rs fs ls
+    slot-here = same-step c clock re e q
 
     -- the walk after the slot, and the set that ran
     pub turned : (place : List ℕ) (next : ℕ) → Reached (c .trace) next (suc clock) → place ≡ places (c .trace) next
         → Turned c clock run′ place next jobs rs
     unfolding ranAt
     turned place next k p = record {
-      walks = record { at-run = next-run; reached = k; at-place = p; idle = λ z. none-left c clock (sym (same-step .jobs) ∙ z) };
-      ran = same-step .ran;
+      walks = record {
+        at-run = next-run c clock re e q;
+        reached = k;
+        at-place = p;
+        idle = λ z. none-left c clock
+            (sym (slot-here .jobs) ∙ z);
+      };
+      ran = slot-here .ran;
     }
 
     -- what is noted of the slot is what the case has
@@ -120,10 +80,10 @@ module _ (c : Case) (clock : ℕ) (rel : List Bool) (re : rel ≡ releases (c .t
     unfolding finishedAt demotedAt missedAt missed
     handed place next p = record {
       at-place = λ i h. rw p (tab-at (λ i. lastPlace (c .trace) next (suc i)) maxTasks i 0 h);
-      at-fin = λ i h. rw (same-step .finished) (tab-at _ maxTasks i false h);
-      at-dem = λ i h. rw (same-step .demoted) (tab-at _ maxTasks i false h);
-      at-missed = λ i h. rw (same-step .missed-next) (tab-at _ maxTasks i false h)
-          ∙ ap (λ (r : Run). isMissed (suc clock) (jobAt r i)) next-run;
+      at-fin = λ i h. rw (slot-here .finished) (tab-at _ maxTasks i false h);
+      at-dem = λ i h. rw (slot-here .demoted) (tab-at _ maxTasks i false h);
+      at-missed = λ i h. rw (slot-here .missed-next) (tab-at _ maxTasks i false h)
+          ∙ ap (λ (r : Run). isMissed (suc clock) (jobAt r i)) (next-run c clock re e q);
     }
 
 -- ---- the records

@@ -1,2 +1,3 @@
 pub mod Traces
 pub mod Given
+pub mod Step
