@@ -11,7 +11,8 @@ use native.Mathlib.Omega.{arith}
 use lib.ListN.{length, getD, set, take, List·getD-append}
 use lib.Seq.{take-append-seam}
 use Rattle.rules.specs.Words.{pick, mapFrom, mapAt, tab}
-use Rattle.rules.specs.Slot.{TaskSet, tasksFrom}
+use Rattle.rules.specs.Limits.{maxTasks}
+use Rattle.rules.specs.Slot.{TaskSet, tasksFrom, tasksIn}
 use Rattle.rules.specs.Writer.{joinedText}
 
 pub mapFrom-long : {A : Type 0} (f : ℕ → A → A) (k : ℕ) (xs : List A) → length (mapFrom f k xs) ≡ length xs
@@ -68,6 +69,12 @@ unfolding tab
 tab-snoc f k zero = rw (add-zero k)
 tab-snoc f k (suc n) = ap (λ l. f k ∷ l) (tab-snoc f (suc k) n ∙ rw (add-suc, suc-add))
 
+-- those of m indices, and behind them those of the next n
+pub tab-append : {A : Type 0} (f : ℕ → A) (k m n : ℕ) → tab f k (m + n) ≡ tab f k m ++ tab f (k + m) n
+unfolding tab
+tab-append f k zero n = rw (zero-add n, add-zero k)
+tab-append f k (suc m) n = rw (suc-add m n, add-suc k m, ← suc-add k m) (ap (λ l. f k ∷ l) (tab-append f (suc k) m n))
+
 -- a store at one index, where the lists agree elsewhere
 tab-set-from : {A : Type 0} (f g : ℕ → A) (k n j : ℕ) → j < n
     → ((i : ℕ) → k ≤ i → i < k + n → (i ≡ k + j → ⊥) → f i ≡ g i) → set (tab f k n) j (g (k + j)) ≡ tab g k n
@@ -85,10 +92,14 @@ pub tab-set : {A : Type 0} (f g : ℕ → A) (n j : ℕ) → j < n
 tab-set f g n j l h = rw (zero-add) at (tab-set-from f g 0 n j l (λ i p q e. h i (omega arith) (λ z. e (omega arith))))
 
 -- ---- one after the other
+pub joined-append : (ss ts : List (List ℕ)) → joinedText (ss ++ ts) ≡ joinedText ss ++ joinedText ts
+unfolding joinedText
+joined-append [] ts = refl
+joined-append (s ∷ ss) ts = ap (λ (l : List ℕ). s ++ l) (joined-append ss ts) ∙ sym (append-assoc s (joinedText ss) (joinedText ts))
+
 joined-last : (ss : List (List ℕ)) (s : List ℕ) → joinedText (ss ++ (s ∷ [])) ≡ joinedText ss ++ s
 unfolding joinedText
-joined-last [] s = append-nil s
-joined-last (r ∷ ss) s = ap (λ (l : List ℕ). r ++ l) (joined-last ss s) ∙ sym (append-assoc r (joinedText ss) s)
+joined-last ss s = joined-append ss (s ∷ []) ∙ ap (λ (l : List ℕ). joinedText ss ++ l) (append-nil s)
 
 -- one text more
 pub joined-more : (f : ℕ → List ℕ) (n : ℕ) → joinedText (tab f 0 (suc n)) ≡ joinedText (tab f 0 n) ++ f n
@@ -124,3 +135,14 @@ tasks-more s k zero = rw (add-zero k)
 tasks-more s k (suc n) =
     let e : k + suc n ≡ suc k + n = omega arith in
     rw (e, tasks-more s (suc k) n) (front-kept (s k) (suc k) (tasksFrom s (suc k) n) _)
+
+-- sets that are the same have the same tasks
+pub tasks-cong : (a b : TaskSet) (n k : ℕ) → ((i : ℕ) → k ≤ i → i < k + n → a i ≡ b i) → tasksFrom a k n
+    ≡ tasksFrom b k n
+unfolding tasksFrom
+tasks-cong a b zero k h = refl
+tasks-cong a b (suc n) k h = rw (h k (omega arith) (omega arith), tasks-cong a b n (suc k) (λ i x y. h i (omega arith) (omega arith)))
+
+pub tasks-same : (a b : TaskSet) → ((i : ℕ) → i < maxTasks → a i ≡ b i) → tasksIn a ≡ tasksIn b
+unfolding tasksIn
+tasks-same a b h = tasks-cong a b maxTasks 0 (λ i x y. h i (omega arith))

@@ -17,7 +17,7 @@ use Rattle.rules.specs.Replay.{setupIn, releasedAt, stateAt, ranAt}
 use Rattle.rules.specs.Answers.{result}
 use Rattle.rules.specs.Log.{openedBy, logLines, setsOf, logAnswer, LogAccepted, slotLineText, logText, ownLog}
 use Rattle.rules.specs.Slot.{tasksIn}
-use Rattle.lists.specs.Lists.{tab-cong}
+use Rattle.lists.specs.Lists.{tab-cong, tasks-same}
 use Rattle.bridge.specs.Course.{Course, contentionFreeIn, finishIn, demotionIn}
 use Rattle.bridge.specs.Records.{taskAt}
 use Rattle.theory.specs.Demand3.{dueAt, Judged}
@@ -25,7 +25,6 @@ use Rattle.logs.specs.Follow.{courseOf, opened-same, own-opened}
 use Rattle.logs.specs.OwnSets.{own-follows}
 use Rattle.logs.specs.LogDemand.{follows-free-slots, follows-demoted-meets}
 use Rattle.logs.specs.LowerFirst.{LowerTaskFirst, chosen-lower, lower-own}
-use Rattle.logs.specs.Named.{tasks-same}
 use Rattle.logs.specs.Clear.{accepted-lined, accepted-answer}
 use Rattle.logs.specs.Exact.{text-sets, follows-accepted, accepted-follows, accepted-bytes}
 

@@ -15,7 +15,7 @@ use Rattle.rules.specs.Slot.{TaskSet}
 use Rattle.rules.specs.Log.{setNamed, risePast, rising, nameTasks}
 use Rattle.rules.specs.Slot.{tasksFrom, tasksIn}
 use Rattle.lists.specs.Tests.{and-left, and-right}
-use Rattle.lists.specs.Lists.{picked}
+use Rattle.lists.specs.Lists.{picked, tasks-cong}
 use Rattle.texts.specs.Fields.{All}
 use Rattle.lists.specs.Tests.{and-both}
 
@@ -83,16 +83,6 @@ names-from s (suc n) k h =
 pub tasks-named : (s : TaskSet) → nameTasks (tasksIn s) ≡ true
 unfolding tasksIn
 tasks-named s = names-from s maxTasks 0 (omega arith)
-
--- sets that are the same have the same tasks
-tasks-cong : (a b : TaskSet) (n k : ℕ) → ((i : ℕ) → k ≤ i → i < k + n → a i ≡ b i) → tasksFrom a k n ≡ tasksFrom b k n
-unfolding tasksFrom
-tasks-cong a b zero k h = refl
-tasks-cong a b (suc n) k h = rw (h k (omega arith) (omega arith), tasks-cong a b n (suc k) (λ i x y. h i (omega arith) (omega arith)))
-
-pub tasks-same : (a b : TaskSet) → ((i : ℕ) → i < maxTasks → a i ≡ b i) → tasksIn a ≡ tasksIn b
-unfolding tasksIn
-tasks-same a b h = tasks-cong a b maxTasks 0 (λ i x y. h i (omega arith))
 
 -- ---- from rising tasks to their set
 named-not : (m : ℕ) (ns : List ℕ) (i : ℕ) → risePast m ns ≡ true → i < m → setNamed ns i ≡ false
