@@ -6,6 +6,7 @@ use mathlib.Core.Bool.{Bool, false, _&&_, not}
 use mathlib.Core.List.{List, _++_}
 use lib.Dec.{eqb}
 use lib.ListN.{getD}
+use Rattle.lists.specs.Lists.{members}
 use Rattle.rules.specs.Words.{pick, countIn, firstIn}
 use Rattle.rules.specs.Limits.{maxTasks}
 use Rattle.rules.specs.Slot.{Setup, setupOf, TaskSet, jobAt, present, isDemoted, dueOf, jobsNow}
@@ -95,9 +96,6 @@ abbrev pub blameRoom : ℕ
 blameRoom = 122
 
 -- ---- the same, of a set as it stands in an array; neither the processors nor the table have a say in which task waits
-abbrev pub members : List Bool → TaskSet
-members named i = getD named i false
-
 abbrev pub Overtaking : ℕ → ℕ → Run → List Bool → ℕ → ℕ → Type 0
 Overtaking policy now r named j k = (procs : ℕ) (table : List ℕ)
     → k ≡ overtakingTask (setupOf procs policy table) now r (members named) j

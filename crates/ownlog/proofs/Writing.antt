@@ -14,9 +14,9 @@ use Rattle.rules.specs.Case.{Case, releaseCount}
 use Rattle.rules.specs.Slot.{tasksIn}
 use Rattle.rules.specs.Replay.{setupIn, fresh, stateFrom, stateAt, ranAt}
 use Rattle.rules.specs.Log.{slotLineText}
-use Rattle.lists.specs.Lists.{tab-at, tasks-same}
+use Rattle.lists.specs.Lists.{tab-at, tasks-same, members}
 use Rattle.bridge.specs.Turn.{Reached}
-use Rattle.slot.specs.Stepped.{Stepped, members}
+use Rattle.slot.specs.Stepped.{Stepped}
 use Rattle.traces.specs.Traces.{releases}
 use Rattle.traces.specs.Step.{same-step, next-run}
 use Rattle.puts.specs.Laid.{Laid}

@@ -4,7 +4,8 @@ use mathlib.Core.Bool.{_&&_, not}
 use Prim.Native.Nat.{_-_}
 use Rattle.rules.specs.Limits.{maxTasks}
 use Rattle.rules.specs.Slot.{present}
-use Rattle.blame.specs.Blames.{members, absentTask}
+use Rattle.lists.specs.Lists.{members}
+use Rattle.blame.specs.Blames.{absentTask}
 use Rattle.blame.proofs.Firsts.{Seeking, seek-none, seek-next, seek-found, seek-all}
 use borrow.Author.Needs.{needs}
 use Rattle.blame.proofs.absent_task.Statement.{statement}

@@ -5,7 +5,8 @@ use Prim.Native.Nat.{_-_}
 use Rattle.rules.specs.Limits.{maxTasks}
 use Rattle.rules.specs.Slot.{setupOf, present}
 use Rattle.rules.specs.Log.{wronged}
-use Rattle.blame.specs.Blames.{members, overtakingTask}
+use Rattle.lists.specs.Lists.{members}
+use Rattle.blame.specs.Blames.{overtakingTask}
 use Rattle.blame.proofs.Firsts.{Seeking, seek-none, seek-next, seek-found, seek-all}
 use borrow.Author.Needs.{needs}
 use Rattle.blame.proofs.overtaking_task.Statement.{statement}

@@ -4,7 +4,8 @@ use Rattle.rules.specs.Slot.{setupOf}
 use Rattle.texts.specs.Digits.{at-most-ten}
 use Rattle.puts.proofs.Puts.{laid-then, laid-length}
 use Rattle.reasons.specs.Reasons.{signBytes, words}
-use Rattle.blame.specs.Blames.{blameText, members}
+use Rattle.lists.specs.Lists.{members}
+use Rattle.blame.specs.Blames.{blameText}
 use Rattle.blame.proofs.Texts.{fault-short}
 use borrow.Author.Needs.{needs}
 use Rattle.blame.proofs.put_blame.Statement.{statement}

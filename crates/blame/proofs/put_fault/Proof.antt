@@ -5,7 +5,7 @@ use native.Mathlib.Omega.{arith}
 use Rattle.rules.specs.Limits.{maxTasks}
 use Rattle.lists.specs.Sums.{count-le}
 use Rattle.reasons.specs.Reasons.{signBytes, words}
-use Rattle.blame.specs.Blames.{members}
+use Rattle.lists.specs.Lists.{members}
 use Rattle.blame.proofs.Finds.{absent-within}
 use Rattle.blame.proofs.Blamed.{no-task, one-absent, wrong-count, right-count}
 use borrow.Author.Needs.{needs}

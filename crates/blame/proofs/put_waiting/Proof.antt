@@ -4,7 +4,7 @@ use Prim.Native.Nat.{_-_}
 use native.Mathlib.Omega.{arith}
 use Rattle.rules.specs.Slot.{setupOf}
 use Rattle.reasons.specs.Reasons.{signBytes, words}
-use Rattle.blame.specs.Blames.{members}
+use Rattle.lists.specs.Lists.{members}
 use Rattle.blame.proofs.Finds.{overtaking-within, waiting-within, overtaken}
 use Rattle.blame.proofs.Blamed.{none-waits, one-waits}
 use borrow.Author.Needs.{needs}

@@ -2,7 +2,7 @@
 use mathlib.Core.Path.{refl}
 use Prim.Native.Nat.{_-_}
 use Rattle.rules.specs.Limits.{maxTasks}
-use Rattle.blame.specs.Blames.{members}
+use Rattle.lists.specs.Lists.{members}
 use Rattle.blame.proofs.Counts.{Counting, counting-none, counting-room, counting-next, counting-all}
 use borrow.Author.Needs.{needs}
 use Rattle.blame.proofs.ran_count.Statement.{statement}

@@ -6,7 +6,8 @@ use Prim.Native.Nat.{_-_}
 use lib.Dec.{eqb}
 use Rattle.rules.specs.Limits.{maxTasks}
 use Rattle.rules.specs.Slot.{setupOf}
-use Rattle.blame.specs.Blames.{members, overtakingTask, waitingTask}
+use Rattle.lists.specs.Lists.{members}
+use Rattle.blame.specs.Blames.{overtakingTask, waitingTask}
 use Rattle.blame.proofs.Firsts.{Seeking, seek-none, seek-next, seek-found, seek-all}
 use Rattle.blame.proofs.Finds.{some-found, none-found}
 use borrow.Author.Needs.{needs}
