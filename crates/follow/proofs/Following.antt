@@ -39,10 +39,9 @@ use Rattle.feeds.specs.Feed.{Feed, feedOf, opening, formedHeard, namesHeard, se
 use Rattle.feeds.specs.Feed.{feed-append, fed-fault, byte-stays}
 use Rattle.feeds.specs.Bounds.{LineSmall, FeedSmall, feed-small, opening-small, past-fault}
 use Rattle.heard.specs.declared.Scan.{Scan}
-use Rattle.heard.specs.declared.Scan.the-variants as Scan·
 use Rattle.heard.specs.declared.Ended.{Ended}
 use Rattle.heard.specs.declared.Ended.the-variants as Ended·
-use Rattle.heard.specs.Scans.{scanAs, endedAs}
+use Rattle.heard.specs.Scans.{startOf, scanAs, endedAs}
 use Rattle.follow.specs.declared.Log.{Log}
 use Rattle.follow.specs.Follows.{faultAt, Going, Follows, Followed, keeps, Slotted, Closed}
 
@@ -227,7 +226,7 @@ module _ (c : Case) (f : Feed) (r : Run) (xs : List Bool) (scan : Scan) (lines n
 
   -- it ends a line without fault: the next one begins
   pub line-over : (s : Run) (ys : List Bool) (next′ number b : ℕ) → b ≡ newlineByte → Closed c lines scan xs r s ys next′ number
-      → number ≡ 0 → Follows c (feedByte c f b) (logOf s ys (Scan·.Word 0) (lines + 1) next′ number)
+      → number ≡ 0 → Follows c (feedByte c f b) (logOf s ys startOf (lines + 1) next′ number)
   line-over s ys next′ number b e k none =
       let z = g in
       let small = small-byte c f b (w .small) in
@@ -292,17 +291,17 @@ module _ (c : Case) (r : Run) (xs : List Bool) (scan : Scan) (lines next number 
   pub step-over : (s : Run) (ys : List Bool) (next′ number′ b : ℕ) → b ≡ newlineByte
       → Closed c lines scan xs r s ys next′ number′ → number′ ≡ 0 → (f : Feed)
       → Follows c f (logOf r xs scan lines next number)
-      → Follows c (feedByte c f b) (logOf s ys (Scan·.Word 0) (lines + 1) next′ number′)
+      → Follows c (feedByte c f b) (logOf s ys startOf (lines + 1) next′ number′)
   step-over s ys next′ number′ b e k ok f w = line-over c f r xs scan lines next (rw none at w) s ys next′ number′ b e k ok
 
   pub step-line : (s : Run) (ys : List Bool) (next′ number′ b : ℕ) → b ≡ newlineByte
       → Closed c lines scan xs r s ys next′ number′
-      → (sc : Scan) (ln : ℕ) → sc ≡ pick (eqb number′ 0) (Scan·.Word 0) scan → ln ≡ pick (eqb number′ 0) (lines + 1) lines
+      → (sc : Scan) (ln : ℕ) → sc ≡ pick (eqb number′ 0) startOf scan → ln ≡ pick (eqb number′ 0) (lines + 1) lines
       → (f : Feed) → Follows c f (logOf r xs scan lines next number) → Follows c (feedByte c f b) (logOf s ys sc ln next′ number′)
   step-line s ys next′ number′ b e k sc ln p q f w = rw (p, q) (go (eqb number′ 0) refl)
     where
       go : (t : Bool) → eqb number′ 0 ≡ t
-          → Follows c (feedByte c f b) (logOf s ys (pick t (Scan·.Word 0) scan) (pick t (lines + 1) lines) next′ number′)
+          → Follows c (feedByte c f b) (logOf s ys (pick t startOf scan) (pick t (lines + 1) lines) next′ number′)
       go true z = step-over s ys next′ number′ b e k (eqb-true number′ 0 z) f w
       go false z = step-stopped s ys next′ number′ b e k (eqb-false number′ 0 z) f w
 
@@ -342,14 +341,15 @@ pub feeding-some : (c : Case) (piece : List ℕ) (first d : Log) (i : ℕ) → F
 feeding-some c piece first d i w v = record { fed = feed c (v .fed) (take i piece); follows = w (v .fed) (v .follows) }
 
 -- ---- the ends of a log
-pub opens-at : (c : Case) (r : Run) → r ≡ fresh → Follows c opening (logOf r (tab (λ i. false) 0 maxTasks) (Scan·.Word 0) 0 0 0)
-opens-at c r e = record {
+pub opens-at : (c : Case) (r : Run) (s : Scan) → r ≡ fresh → s ≡ startOf
+    → Follows c opening (logOf r (tab (λ i. false) 0 maxTasks) s 0 0 0)
+opens-at c r s e z = record {
   small = opening-small;
   few = omega arith;
   fault = refl;
   going = λ q. record {
     long = tab-long (λ i. false) 0 maxTasks;
-    line = refl;
+    line = ap (λ (x : Scan). scanAs x (tab (λ i. false) 0 maxTasks)) z;
     count = refl;
     run = λ l. e;
     reached = λ l. record { within = omega arith; before = λ j h. absurd (omega arith); behind = λ j p q. omega arith };

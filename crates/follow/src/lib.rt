@@ -15,8 +15,7 @@ ghost use Rattle.rules.specs.Calls.{LogPromise};
 ghost use Rattle.bridge.specs.Turn.{Reached};
 ghost use Rattle.counts.specs.Needs.{Counts};
 ghost use Rattle.feeds.specs.Feed.{Feed, opening, formedHeard, namesHeard, feed, fedFault};
-ghost use Rattle.heard.specs.declared.Scan.the-variants.{Word};
-ghost use Rattle.heard.specs.Scans.{endedAs};
+ghost use Rattle.heard.specs.Scans.{startOf, endedAs};
 ghost use Rattle.follow.specs.Follows.{Follows, Followed, Slotted, Closed};
 use heard::Ended;
 use heard::Scan;
@@ -183,10 +182,11 @@ pub fn open_log() -> Log
     ensures { λ r. ⌜ ((c : Case) → Follows c opening r) ⌝ }
 {
     let run = slot::fresh_run();
+    let scan = heard::line_start();
     Log {
         run: run,
         named: [false; MAX_TASKS],
-        scan: Scan::Word { read: 0 },
+        scan: scan,
         lines: 0,
         next: 0,
         number: 0,
@@ -195,10 +195,10 @@ pub fn open_log() -> Log
 
 // Behind a line without fault the next one begins; behind one at fault nothing changes any more.
 fn next_scan(scan: Scan, number: u32) -> Scan
-    ensures { λ r. ⌜ r ≡ pick (eqb number 0) (Word 0) scan ⌝ }
+    ensures { λ r. ⌜ r ≡ pick (eqb number 0) startOf scan ⌝ }
 {
     if number == 0 {
-        Scan::Word { read: 0 }
+        heard::line_start()
     } else {
         scan
     }

@@ -27,9 +27,8 @@ use Rattle.feeds.specs.Bounds.{NumSmall, LineSmall}
 use Rattle.heard.specs.declared.Ended.{Ended}
 use Rattle.heard.specs.declared.Ended.the-variants as Ended·
 use Rattle.heard.specs.declared.Scan.{Scan}
-use Rattle.heard.specs.declared.Scan.the-variants as Scan·
 use Rattle.lists.specs.Lists.{members}
-use Rattle.heard.specs.Scans.{wordAt, scanAs, endedAs}
+use Rattle.heard.specs.Scans.{wordAt, phaseAs, scanAs, InNumber, endedAs}
 
 -- ---- the set
 never-in : (n k i : ℕ) → getD (tab (λ j. false) k n) i false ≡ false
@@ -84,72 +83,6 @@ none-more xs v e = fun-ext (λ i. at i (decLt i maxTasks))
 pub name-bounds : (v : ℕ) → isName v ≡ true → (1 ≤ v) × (v ≤ maxTasks)
 name-bounds v e = (leb-true 1 v (and-left (leb 1 v) _ e), leb-true v maxTasks (and-right (leb 1 v) _ e))
 
--- ---- fields that end
--- the next task is awaited, of which `low` is the least that rises
-abbrev pub nextTask : ℕ → Heard → LineScan
-nextTask low heardBad = wrong
-nextTask low (heard t rises names set) = inTask t low rises names set 0 0
-
-pub time-next : (k v : ℕ) → afterTime (numEnd (numSoFar k v)) ≡ nextTask 0 (heardTime (numEnd (numSoFar k v)))
-unfolding numEnd
-time-next zero v = refl
-time-next (suc k) v = refl
-
-pub task-next : (t low : ℕ) (rises names : Bool) (s : TaskSet) (k v : ℕ)
-    → afterTask t low rises names s (numEnd (numSoFar k v)) ≡ nextTask (suc v) (heardTask t low rises names s (numEnd (numSoFar k v)))
-unfolding numEnd
-task-next t low rises names s zero v = refl
-task-next t low rises names s (suc k) v = refl
-
--- what a field says at its end, and the state behind the tab
-module _ (x : Ended) (xs : List Bool) where
-  pub after-bad : (t low : ℕ) (rises names : Bool) (s : TaskSet) (k v : ℕ) → x ≡ Ended·.Bad
-      → endedAs x xs ≡ heardTask t low rises names s (numEnd (numSoFar k v)) → wrong
-      ≡ afterTask t low rises names s (numEnd (numSoFar k v))
-  after-bad t low rises names s k v q e =
-      ap (nextTask (suc v)) (rw q at e) ∙ sym (task-next t low rises names s k v)
-
-  pub after-slot : (t low : ℕ) (rises names : Bool) (s : TaskSet) (k v u : ℕ) (r n : Bool) → x ≡ Ended·.Slot u r n
-      → endedAs x xs ≡ heardTask t low rises names s (numEnd (numSoFar k v))
-      → inTask u (v + 1) r n (members xs) 0 0 ≡ afterTask t low rises names s (numEnd (numSoFar k v))
-  after-slot t low rises names s k v u r n q e =
-      rw (add-one v) (ap (nextTask (suc v)) (rw q at e) ∙ sym (task-next t low rises names s k v))
-
-  pub first-bad : (k v b : ℕ) → b ≡ tabByte → x ≡ Ended·.Bad → endedAs x xs ≡ heardTime (numEnd (numSoFar k v))
-      → wrong ≡ scanByte (inTime k v) b
-  unfolding scanByte
-  first-bad k v b z q e = rw z (ap (nextTask 0) (rw q at e) ∙ sym (time-next k v))
-
-  pub first-slot : (k v b u : ℕ) (r n : Bool) → b ≡ tabByte → x ≡ Ended·.Slot u r n
-      → endedAs x xs ≡ heardTime (numEnd (numSoFar k v)) → inTask u 0 r n (members xs) 0 0 ≡ scanByte (inTime k v) b
-  unfolding scanByte
-  first-slot k v b u r n z q e = rw z (ap (nextTask 0) (rw q at e) ∙ sym (time-next k v))
-
-pub task-tab : (t low : ℕ) (rises names : Bool) (s : TaskSet) (k v b : ℕ) → b ≡ tabByte
-    → afterTask t low rises names s (numEnd (numSoFar k v)) ≡ scanByte (inTask t low rises names s k v) b
-unfolding scanByte
-task-tab t low rises names s k v b z = rw z
-
--- ---- fields that go on
-pub time-on : (k v b : ℕ) → (b ≡ tabByte → ⊥) → fits k v b ≡ true → inTime (k + 1) (v * 10 + (b - 48))
-    ≡ scanByte (inTime k v) b
-unfolding scanByte numByte
-time-on k v b h e = rw (ne-eqb b tabByte h, e, add-one k)
-
-pub time-wrong : (k v b : ℕ) → (b ≡ tabByte → ⊥) → fits k v b ≡ false → wrong ≡ scanByte (inTime k v) b
-unfolding scanByte numByte
-time-wrong k v b h e = rw (ne-eqb b tabByte h, e)
-
-module _ (t low : ℕ) (rises names : Bool) (s : TaskSet) (k v b : ℕ) where
-  pub task-on : (b ≡ tabByte → ⊥) → fits k v b ≡ true
-      → inTask t low rises names s (k + 1) (v * 10 + (b - 48)) ≡ scanByte (inTask t low rises names s k v) b
-  unfolding scanByte numByte
-  task-on h e = rw (ne-eqb b tabByte h, e, add-one k)
-
-  pub task-wrong : (b ≡ tabByte → ⊥) → fits k v b ≡ false → wrong ≡ scanByte (inTask t low rises names s k v) b
-  unfolding scanByte numByte
-  task-wrong h e = rw (ne-eqb b tabByte h, e)
-
 -- ---- numbers
 pub num-none : (k v : ℕ) → k ≡ 0 → numEnd (numSoFar k v) ≡ Num·.Bad
 unfolding numEnd
@@ -173,10 +106,74 @@ small-worth k v h l = omega (arith, h .1, pow-le-pow-right {n = 10} (omega arith
 pub small-value : (k v : ℕ) → NumSmall (numSoFar k v) → v < 10 ^ 9
 small-value k v h = omega (arith, h .1, pow-le-pow-right {n = 10} (omega arith) {i = k} {j = 9} (h .0))
 
+-- and no tab
+no-tab : (k v b : ℕ) → fits k v b ≡ true → eqb b tabByte ≡ false
+no-tab k v b e = ne-eqb b tabByte (λ z. omega (arith, fits-digit k v b e))
+
 -- the number so far of a small line is small
-pub small-task : (x : Scan) (xs : List Bool) (t low : ℕ) (rises names : Bool) (k v : ℕ) → x ≡ Scan·.Task t low rises names k v
-    → LineSmall (scanAs x xs) → NumSmall (numSoFar k v)
-small-task x xs t low rises names k v e h = let w = rw e at h in w .2
+pub small-number : (p k v t low : ℕ) (rises names : Bool) (s : TaskSet) → 1 ≤ p → p ≤ 2
+    → LineSmall (phaseAs p k v t low rises names s) → NumSmall (numSoFar k v)
+small-number zero k v t low rises names s a b h = absurd (omega arith)
+small-number (suc zero) k v t low rises names s a b h = h
+small-number (suc (suc zero)) k v t low rises names s a b h = h .2
+small-number (suc (suc (suc p))) k v t low rises names s a b h = absurd (omega arith)
+
+-- ---- a number that ends
+-- the next task is awaited, of which `low` is the least that rises
+abbrev pub nextTask : ℕ → Heard → LineScan
+nextTask low heardBad = wrong
+nextTask low (heard t rises names set) = inTask t low rises names set 0 0
+
+-- at a tab within a number: what is heard there, and then the next task
+tab-next : (p k v t low : ℕ) (rises names : Bool) (s : TaskSet) → 1 ≤ p → p ≤ 2
+    → scanByte (phaseAs p k v t low rises names s) tabByte
+    ≡ nextTask (pick (eqb p 2) (v + 1) 0) (lineEnd (phaseAs p k v t low rises names s))
+unfolding scanByte lineEnd
+tab-next zero k v t low rises names s a b = absurd (omega arith)
+tab-next (suc zero) k v t low rises names s a b = go k
+  where
+    go : (k : ℕ) → afterTime (numEnd (numSoFar k v)) ≡ nextTask 0 (heardTime (numEnd (numSoFar k v)))
+    go zero = unfold numEnd in refl
+    go (suc k) = unfold numEnd in refl
+tab-next (suc (suc zero)) k v t low rises names s a b = rw (add-one v) (go k)
+  where
+    go : (k : ℕ) → afterTask t low rises names s (numEnd (numSoFar k v))
+        ≡ nextTask (suc v) (heardTask t low rises names s (numEnd (numSoFar k v)))
+    go zero = unfold numEnd in refl
+    go (suc k) = unfold numEnd in refl
+tab-next (suc (suc (suc p))) k v t low rises names s a b = absurd (omega arith)
+
+-- what a field says at its end, and the state behind the tab
+module _ (s : Scan) (xs ys : List Bool) (n : InNumber s) (low : ℕ) (l : low ≡ pick (eqb (s .phase) 2) (s .value + 1) 0) (x : Ended)
+    (e : endedAs x ys ≡ lineEnd (scanAs s xs)) where
+  behind : nextTask low (endedAs x ys) ≡ scanByte (scanAs s xs) tabByte
+  behind =
+      rw (e, l) (sym (tab-next (s .phase) (s .digits) (s .value) (s .time) (s .low) (s .rises) (s .names) (members xs) (n .from) (n .to)))
+
+  pub after-bad : x ≡ Ended·.Bad → wrong ≡ scanByte (scanAs s xs) tabByte
+  after-bad q = ap (λ (z : Ended). nextTask low (endedAs z ys)) (sym q) ∙ behind
+
+  pub after-slot : (t : ℕ) (r m : Bool) → x ≡ Ended·.Slot t r m → inTask t low r m (members ys) 0 0
+      ≡ scanByte (scanAs s xs) tabByte
+  after-slot t r m q = ap (λ (z : Ended). nextTask low (endedAs z ys)) (sym q) ∙ behind
+
+-- ---- a number that goes on
+pub digit-more : (p k v t low : ℕ) (rises names : Bool) (s : TaskSet) (b : ℕ) → 1 ≤ p → p ≤ 2 → fits k v b ≡ true
+    → phaseAs p (k + 1) (v * 10 + (b - 48)) t low rises names s ≡ scanByte (phaseAs p k v t low rises names s) b
+unfolding scanByte numByte
+digit-more zero k v t low rises names s b x y e = absurd (omega arith)
+digit-more (suc zero) k v t low rises names s b x y e = rw (no-tab k v b e, e, add-one k)
+digit-more (suc (suc zero)) k v t low rises names s b x y e = rw (no-tab k v b e, e, add-one k)
+digit-more (suc (suc (suc p))) k v t low rises names s b x y e = absurd (omega arith)
+
+pub number-wrong : (p k v t low : ℕ) (rises names : Bool) (s : TaskSet) (b : ℕ) → 1 ≤ p → p ≤ 2 → fits k v b ≡ false
+    → (b ≡ tabByte → ⊥)
+    → wrong ≡ scanByte (phaseAs p k v t low rises names s) b
+unfolding scanByte numByte
+number-wrong zero k v t low rises names s b x y e h = absurd (omega arith)
+number-wrong (suc zero) k v t low rises names s b x y e h = rw (ne-eqb b tabByte h, e)
+number-wrong (suc (suc zero)) k v t low rises names s b x y e h = rw (ne-eqb b tabByte h, e)
+number-wrong (suc (suc (suc p))) k v t low rises names s b x y e h = absurd (omega arith)
 
 -- ---- the word
 word-step : (k b : ℕ) → scanByte (wordAt k) b ≡ pick (eqb b tabByte) (wordTab (drop k slotWord)) (wordByte (drop k slotWord) b)
@@ -202,24 +199,60 @@ word-tab-here k b h q = word-step k b ∙ rw (word-over k h, q)
 pub word-too-long : (k b : ℕ) → 4 ≤ k → (b ≡ tabByte → ⊥) → scanByte (wordAt k) b ≡ wrong
 word-too-long k b h q = word-step k b ∙ rw (word-over k h, ne-eqb b tabByte q)
 
--- no byte of it was read, or it has no end within it
-pub word-start : (k : ℕ) → eqb k 0 ≡ atStart (wordAt k)
-word-start zero = refl
-word-start (suc k) = ne-eqb (suc k) 0 (λ e. omega arith)
+-- ---- by the phase
+pub not-first : (p : ℕ) → (p ≡ 0 → ⊥) → 1 ≤ p
+not-first zero h = absurd (h refl)
+not-first (suc p) h = omega arith
 
-pub word-ended : (k : ℕ) → heardBad ≡ lineEnd (wordAt k)
-unfolding lineEnd
-word-ended zero = refl
-word-ended (suc k) = refl
+-- no byte of it was read
+pub word-start : (k v t low : ℕ) (rises names : Bool) (s : TaskSet) (p : ℕ) → p ≡ 0 → eqb k 0
+    ≡ atStart (phaseAs p k v t low rises names s)
+word-start zero v t low rises names s p e = rw e
+word-start (suc k) v t low rises names s p e = rw e (ne-eqb (suc k) 0 (λ z. omega arith))
 
-pub time-ended : (k v : ℕ) → heardTime (numEnd (numSoFar k v)) ≡ lineEnd (inTime k v)
-unfolding lineEnd
-time-ended k v = refl
+pub past-start : (p k v t low : ℕ) (rises names : Bool) (s : TaskSet) → (p ≡ 0 → ⊥) → false
+    ≡ atStart (phaseAs p k v t low rises names s)
+past-start zero k v t low rises names s h = absurd (h refl)
+past-start (suc zero) k v t low rises names s h = refl
+past-start (suc (suc zero)) k v t low rises names s h = refl
+past-start (suc (suc (suc p))) k v t low rises names s h = refl
 
-pub task-ended : (t low : ℕ) (rises names : Bool) (s : TaskSet) (k v : ℕ)
-    → heardTask t low rises names s (numEnd (numSoFar k v)) ≡ lineEnd (inTask t low rises names s k v)
+-- neither a time nor a task ends here
+pub word-ended : (p k v t low : ℕ) (rises names : Bool) (s : TaskSet) → (p ≡ 2 → ⊥) → (p ≡ 1 → ⊥)
+    → heardBad ≡ lineEnd (phaseAs p k v t low rises names s)
 unfolding lineEnd
-task-ended t low rises names s k v = refl
+word-ended zero zero v t low rises names s a b = refl
+word-ended zero (suc k) v t low rises names s a b = refl
+word-ended (suc zero) k v t low rises names s a b = absurd (b refl)
+word-ended (suc (suc zero)) k v t low rises names s a b = absurd (a refl)
+word-ended (suc (suc (suc p))) k v t low rises names s a b = refl
+
+pub time-ended : (p k v t low : ℕ) (rises names : Bool) (s : TaskSet) → p ≡ 1
+    → heardTime (numEnd (numSoFar k v)) ≡ lineEnd (phaseAs p k v t low rises names s)
+unfolding lineEnd
+time-ended p k v t low rises names s e = rw e
+
+pub task-ended : (p k v t low : ℕ) (rises names : Bool) (s : TaskSet) → p ≡ 2
+    → heardTask t low rises names s (numEnd (numSoFar k v)) ≡ lineEnd (phaseAs p k v t low rises names s)
+unfolding lineEnd
+task-ended p k v t low rises names s e = rw e
+
+-- what is wrong stays wrong
+pub wrong-on : (p k v t low : ℕ) (rises names : Bool) (s : TaskSet) (b : ℕ) → 3 ≤ p
+    → phaseAs p k v t low rises names s ≡ scanByte (phaseAs p k v t low rises names s) b
+unfolding scanByte
+wrong-on zero k v t low rises names s b h = absurd (omega arith)
+wrong-on (suc zero) k v t low rises names s b h = absurd (omega arith)
+wrong-on (suc (suc zero)) k v t low rises names s b h = absurd (omega arith)
+wrong-on (suc (suc (suc p))) k v t low rises names s b h = refl
+
+-- the word goes on, or not
+pub in-word : (p k v t low : ℕ) (rises names : Bool) (s : TaskSet) (b : ℕ) (x : LineScan) → p ≡ 0 → scanByte (wordAt k) b ≡ x
+    → x ≡ scanByte (phaseAs p k v t low rises names s) b
+in-word p k v t low rises names s b x e q = rw e (sym q)
+
+pub word-next : (p k v t low : ℕ) (rises names : Bool) (s : TaskSet) → p ≡ 0 → phaseAs p k v t low rises names s ≡ wordAt k
+word-next p k v t low rises names s e = rw e
 
 -- a tab or not, it is wrong
 either : (e : Bool) {x : LineScan} → x ≡ wrong → pick e wrong x ≡ wrong

@@ -3,36 +3,40 @@ ghost use mathlib.Core.Path.{_≡_};
 ghost use mathlib.Core.Bool.{Bool};
 ghost use mathlib.Core.List.{List};
 ghost use Prim.Native.Nat.{_+_, _*_, _-_, _≤_, _<_, _^_};
+ghost use lib.Dec.{eqb};
 ghost use lib.ListN.{length, getD};
+ghost use Rattle.rules.specs.Words.{pick};
 ghost use Rattle.rules.specs.Limits.{maxTasks};
+ghost use Rattle.rules.specs.Text.{tabByte};
 ghost use Rattle.rules.specs.Log.{slotWord};
-ghost use Rattle.feeds.specs.NumScan.{fits, numSoFar, numEnd};
-ghost use Rattle.feeds.specs.LineScan.{isName, withName, inTime, inTask, afterTask, scanByte, heardTime, heardTask, lineEnd, atStart};
-ghost use Rattle.feeds.specs.Bounds.{NumSmall, LineSmall};
 ghost use Rattle.lists.specs.Lists.{members};
-ghost use Rattle.heard.specs.Scans.{wordAt, scanAs, endedAs};
+ghost use Rattle.feeds.specs.NumScan.{fits, numSoFar, numEnd};
+ghost use Rattle.feeds.specs.LineScan.{isName, withName, scanByte, heardTime, heardTask, lineEnd, atStart};
+ghost use Rattle.feeds.specs.Bounds.{LineSmall};
+ghost use Rattle.heard.specs.Scans.{InNumber, startOf, scanAs, endedAs};
 use rules::MAX_TASKS;
 
-// How far a line is heard: what cannot become a line any more; so many bytes of the word; the time's digits; or a task's, with the time,
-// the least number that would rise, and whether all tasks before rise and are tasks.
-pub enum Scan {
-    Wrong,
-    Word {
-        read: u32,
-    },
-    Time {
-        digits: u32,
-        value: u32,
-    },
-    Task {
-        time: u32,
-        low: u32,
-        rises: bool,
-        names: bool,
-        digits: u32,
-        value: u32,
-    },
+// How far a line is heard: its phase, and what that phase goes by: the bytes of the word that were read, or the digits of a number and
+// what they are worth; of the tasks the time before them, the least number that would rise, and whether all before rise and are tasks.
+// A struct and not an enum: the fields stay in registers from byte to byte.
+pub struct Scan {
+    pub phase: u32,
+    pub digits: u32,
+    pub value: u32,
+    pub time: u32,
+    pub low: u32,
+    pub rises: bool,
+    pub names: bool,
 }
+
+// The phases of a line: its word, its time, its tasks; or that it cannot become a line any more.
+const WORD: u32 = 0;
+
+const TIME: u32 = 1;
+
+const TASK: u32 = 2;
+
+const WRONG: u32 = 3;
 
 // What a line says at its end, beside the set of the tasks that it names.
 pub enum Ended {
@@ -119,19 +123,14 @@ fn end_time(digits: u32, value: u32, named: &mut [bool; MAX_TASKS]) -> Ended
 }
 
 // A task's end.
-fn end_task(
-    time: u32,
-    low: u32,
-    rises: bool,
-    names: bool,
-    digits: u32,
-    value: u32,
-    named: &mut [bool; MAX_TASKS],
-) -> Ended
+fn end_task(s: Scan, named: &mut [bool; MAX_TASKS]) -> Ended
     requires { ⌜ length (now named) ≡ maxTasks ⌝ }
     ensures { λ r. ⌜ (length (now (named .exit)) ≡ maxTasks) × (endedAs r (now (named .exit))
-        ≡ heardTask time low rises names (members (now (named .entry))) (numEnd (numSoFar digits value))) ⌝ }
+        ≡ heardTask (s .time) (s .low) (s .rises) (s .names) (members (now (named .entry))) (numEnd (numSoFar (s .digits) (s .value)))) ⌝ }
 {
+    let digits = s.digits;
+    let value = s.value;
+    let low = s.low;
     if digits == 0 {
         return Ended::Bad;
     }
@@ -139,13 +138,58 @@ fn end_task(
     let risen = low <= value;
     let task = is_task(value);
     Ended::Slot {
-        time: time,
-        rises: rises & risen,
-        names: names & task,
+        time: s.time,
+        rises: s.rises & risen,
+        names: s.names & task,
     }
 }
 
+// What the line says where its field ends here.
+pub fn line_end(s: Scan, named: &mut [bool; MAX_TASKS]) -> Ended
+    requires { ⌜ length (now named) ≡ maxTasks ⌝ }
+    ensures { λ r. ⌜ (length (now (named .exit)) ≡ maxTasks)
+        × (endedAs r (now (named .exit)) ≡ lineEnd (scanAs s (now (named .entry)))) ⌝ }
+{
+    let phase = s.phase;
+    let digits = s.digits;
+    let value = s.value;
+    if phase == TASK {
+        return end_task(s, named);
+    }
+    if phase == TIME {
+        return end_time(digits, value, named);
+    }
+    Ended::Bad
+}
+
 // ---- a byte more
+
+// Before the first byte of a line.
+pub fn line_start() -> Scan
+    ensures { λ r. ⌜ r ≡ startOf ⌝ }
+{
+    Scan {
+        phase: WORD,
+        digits: 0,
+        value: 0,
+        time: 0,
+        low: 0,
+        rises: true,
+        names: true,
+    }
+}
+
+// Whether no byte of a line was heard.
+pub fn is_start(s: Scan) -> bool
+    ensures { λ r. ⌜ ((xs : List Bool) → r ≡ atStart (scanAs s xs)) ⌝ }
+{
+    let phase = s.phase;
+    let digits = s.digits;
+    if phase == WORD {
+        return digits == 0;
+    }
+    false
+}
 
 // The byte of the word at a place.
 fn letter(place: u32) -> u8
@@ -160,118 +204,86 @@ fn letter(place: u32) -> u8
     }
 }
 
-fn word_byte(read: u32, b: u8) -> Scan
-    ensures { λ r. ⌜ ((xs : List Bool) → scanAs r xs ≡ scanByte (wordAt read) b) ⌝ }
+// A byte within the word, or the tab behind it.
+fn word_byte(s: Scan, b: u8) -> Scan
+    requires { ⌜ s .phase ≡ 0 ⌝ }
+    ensures { λ r. ⌜ ((xs : List Bool) → scanAs r xs ≡ scanByte (scanAs s xs) b) ⌝ }
 {
+    let read = s.digits;
     if 4 <= read {
         if b == b'\t' {
-            return Scan::Time {
+            return Scan {
+                phase: TIME,
                 digits: 0,
                 value: 0,
+                ..s
             };
         }
-        return Scan::Wrong;
+        return Scan { phase: WRONG, ..s };
     }
     if b == letter(read) {
-        return Scan::Word { read: read + 1 };
+        return Scan {
+            digits: read + 1,
+            ..s
+        };
     }
-    Scan::Wrong
+    Scan { phase: WRONG, ..s }
 }
 
-fn time_byte(digits: u32, value: u32, b: u8, named: &mut [bool; MAX_TASKS]) -> Scan
-    requires { ⌜ NumSmall (numSoFar digits value) ⌝ }
+// The least task that rises behind a field: any behind the time, and behind a task one that is larger.
+fn next_low(phase: u32, value: u32) -> u32
+    requires { ⌜ value < 10 ^ 9 ⌝ }
+    ensures { λ r. ⌜ r ≡ pick (eqb phase 2) (value + 1) 0 ⌝ }
+{
+    if phase == TASK { value + 1 } else { 0 }
+}
+
+// A tab behind a number: a task is to come.
+fn after_field(s: Scan, named: &mut [bool; MAX_TASKS]) -> Scan
+    requires { ⌜ InNumber s ⌝ }
     requires { ⌜ length (now named) ≡ maxTasks ⌝ }
     ensures { λ r. ⌜ (length (now (named .exit)) ≡ maxTasks)
-        × (scanAs r (now (named .exit)) ≡ scanByte (inTime digits value) b) ⌝ }
+        × (scanAs r (now (named .exit)) ≡ scanByte (scanAs s (now (named .entry))) tabByte) ⌝ }
 {
-    if b == b'\t' {
-        let ended = end_time(digits, value, named);
-        let Ended::Slot { time, rises, names } = ended else {
-            return Scan::Wrong;
-        };
-        return Scan::Task {
-            time: time,
-            low: 0,
-            rises: rises,
-            names: names,
-            digits: 0,
-            value: 0,
-        };
-    }
-    if fits(digits, value, b) {
-        let longer = with_digit(value, b);
-        return Scan::Time {
-            digits: digits + 1,
-            value: longer,
-        };
-    }
-    Scan::Wrong
-}
-
-// A tab behind a task: the next one has to be larger.
-fn after_task(
-    time: u32,
-    low: u32,
-    rises: bool,
-    names: bool,
-    digits: u32,
-    value: u32,
-    named: &mut [bool; MAX_TASKS],
-) -> Scan
-    requires { ⌜ NumSmall (numSoFar digits value) ⌝ }
-    requires { ⌜ length (now named) ≡ maxTasks ⌝ }
-    ensures { λ r. ⌜ (length (now (named .exit)) ≡ maxTasks) × (scanAs r (now (named .exit))
-        ≡ afterTask time low rises names (members (now (named .entry))) (numEnd (numSoFar digits value))) ⌝ }
-{
-    let ended = end_task(time, low, rises, names, digits, value, named);
-    let Ended::Slot {
-        time: slot,
-        rises: risen,
-        names: tasks,
-    } = ended
-    else {
-        return Scan::Wrong;
+    let phase = s.phase;
+    let value = s.value;
+    let low = next_low(phase, value);
+    let ended = line_end(s, named);
+    let Ended::Slot { time, rises, names } = ended else {
+        return Scan { phase: WRONG, ..s };
     };
-    Scan::Task {
-        time: slot,
-        low: value + 1,
-        rises: risen,
-        names: tasks,
+    Scan {
+        phase: TASK,
         digits: 0,
         value: 0,
+        time: time,
+        low: low,
+        rises: rises,
+        names: names,
     }
 }
 
-fn task_byte(
-    time: u32,
-    low: u32,
-    rises: bool,
-    names: bool,
-    digits: u32,
-    value: u32,
-    b: u8,
-    named: &mut [bool; MAX_TASKS],
-) -> Scan
-    requires { ⌜ NumSmall (numSoFar digits value) ⌝ }
+// A byte within a number, or the tab behind it.
+fn number_byte(s: Scan, b: u8, named: &mut [bool; MAX_TASKS]) -> Scan
+    requires { ⌜ InNumber s ⌝ }
     requires { ⌜ length (now named) ≡ maxTasks ⌝ }
-    ensures { λ r. ⌜ (length (now (named .exit)) ≡ maxTasks) × (scanAs r (now (named .exit))
-        ≡ scanByte (inTask time low rises names (members (now (named .entry))) digits value) b) ⌝ }
+    ensures { λ r. ⌜ (length (now (named .exit)) ≡ maxTasks)
+        × (scanAs r (now (named .exit)) ≡ scanByte (scanAs s (now (named .entry))) b) ⌝ }
 {
-    if b == b'\t' {
-        return after_task(time, low, rises, names, digits, value, named);
-    }
+    let digits = s.digits;
+    let value = s.value;
     if fits(digits, value, b) {
         let longer = with_digit(value, b);
-        return Scan::Task {
-            time: time,
-            low: low,
-            rises: rises,
-            names: names,
+        return Scan {
             digits: digits + 1,
             value: longer,
+            ..s
         };
     }
-    Scan::Wrong
+    if b == b'\t' {
+        return after_field(s, named);
+    }
+    Scan { phase: WRONG, ..s }
 }
 
 // One more byte of a line, which is no newline.
@@ -281,62 +293,12 @@ pub fn scan_byte(s: Scan, b: u8, named: &mut [bool; MAX_TASKS]) -> Scan
     ensures { λ r. ⌜ (length (now (named .exit)) ≡ maxTasks)
         × (scanAs r (now (named .exit)) ≡ scanByte (scanAs s (now (named .entry))) b) ⌝ }
 {
-    match s {
-        Scan::Wrong => Scan::Wrong,
-        Scan::Word { read } => word_byte(read, b),
-        Scan::Time { digits, value } => time_byte(digits, value, b, named),
-        Scan::Task {
-            time,
-            low,
-            rises,
-            names,
-            digits,
-            value,
-        } => task_byte(time, low, rises, names, digits, value, b, named),
+    let phase = s.phase;
+    if phase == WORD {
+        return word_byte(s, b);
     }
-}
-
-// ---- the line's end
-
-// What the line says at its newline.
-pub fn line_end(s: Scan, named: &mut [bool; MAX_TASKS]) -> Ended
-    requires { ⌜ length (now named) ≡ maxTasks ⌝ }
-    ensures { λ r. ⌜ (length (now (named .exit)) ≡ maxTasks)
-        × (endedAs r (now (named .exit)) ≡ lineEnd (scanAs s (now (named .entry)))) ⌝ }
-{
-    match s {
-        Scan::Wrong => Ended::Bad,
-        Scan::Word { read: _ } => Ended::Bad,
-        Scan::Time { digits, value } => end_time(digits, value, named),
-        Scan::Task {
-            time,
-            low,
-            rises,
-            names,
-            digits,
-            value,
-        } => end_task(time, low, rises, names, digits, value, named),
+    if WRONG <= phase {
+        return s;
     }
-}
-
-// Whether no byte of a line was heard.
-pub fn is_start(s: Scan) -> bool
-    ensures { λ r. ⌜ ((xs : List Bool) → r ≡ atStart (scanAs s xs)) ⌝ }
-{
-    match s {
-        Scan::Wrong => false,
-        Scan::Word { read } => read == 0,
-        Scan::Time {
-            digits: _,
-            value: _,
-        } => false,
-        Scan::Task {
-            time: _,
-            low: _,
-            rises: _,
-            names: _,
-            digits: _,
-            value: _,
-        } => false,
-    }
+    number_byte(s, b, named)
 }

@@ -22,18 +22,21 @@ add-t9 c = search needs
 returns-2 : tie.Need-returns-2
 returns-2 c =
     let s = c .before .is-start in
-    λ k f e w. over-unended k f _ w (s .result) (c .before .before .if1 .left) (s .ensures _) (not-is _ (c .if2 .taken))
+    λ k f e w. over-unended k f _ w (s .result) (c .before .before .if1 .left)
+    (s .ensures (c .before .before .before .before .args .log .named)) (not-is _ (c .if2 .taken))
 
 returns-3 : tie.Need-returns-3
 returns-3 c =
     let s = c .before .before .is-start in
-    λ k f e w. over-number k f _ w (s .result) (c .before .before .before .if1 .left) (s .ensures _) (not-left _ (c .before .if2 .left))
+    λ k f e w. over-number k f _ w (s .result) (c .before .before .before .if1 .left)
+    (s .ensures (c .before .before .before .before .before .args .log .named)) (not-left _ (c .before .if2 .left))
     (λ z. c .if3 .taken (z ∙ e))
 
 returns-4 : tie.Need-returns-4
 returns-4 c =
     let s = c .before .before .is-start in
-    λ k f e w. over-none k f _ w (s .result) (c .before .before .before .if1 .left) (s .ensures _) (not-left _ (c .before .if2 .left))
+    λ k f e w. over-none k f _ w (s .result) (c .before .before .before .if1 .left)
+    (s .ensures (c .before .before .before .before .before .args .log .named)) (not-left _ (c .before .if2 .left))
     (c .if3 .left ∙ sym e)
 
 pub close-log-spec : {M : Type 1} → statement M

@@ -23,14 +23,14 @@ abbrev μ-loop : tie.MeasureT-loop
     length piece - i
 
 loop-holds : tie.Need-loop-holds Inv-loop μ-loop
-loop-holds c = λ f w. feeding-none _ (c .before .before .before .before .before .args .piece .now) _ f w
+loop-holds c = λ f w. feeding-none _ (c .before .before .before .before .before .before .args .piece .now) _ f w
 
 shared-slice-read-b : tie.Need-shared-slice-read-b Inv-loop μ-loop
 shared-slice-read-b c = omega arith
 
 close-line-requires : tie.Need-close-line-requires Inv-loop μ-loop
 close-line-requires c κs =
-    let start = c .before .before .before .before .before .before .before .before .before .before .before .before .before .before in
+    let start = c .before .before .before .before .before .before .before .before .before .before .before .before .before .before .before in
     let l = c .before .before .before .before .before .before .before .before .loop in
     let v = feeding-some _ (start .args .piece .now) _ _ (l .i) (l .inv) (start .pre .1 .1) in
     let a = asks _ _ _ _ _ _ _ (c .before .before .before .before .before .before .if1 .taken) v in
@@ -42,14 +42,14 @@ next-scan-requires c κs = search needs
 next-line-requires : tie.Need-next-line-requires Inv-loop μ-loop
 next-line-requires c κs =
     let start = c .before .before .before .before .before .before .before .before .before .before .before .before .before .before .before
-    .before in
+    .before .before in
     let l = c .before .before .before .before .before .before .before .before .before .before .loop in
     let v = feeding-some _ (start .args .piece .now) _ _ (l .i) (l .inv) (start .pre .1 .1) in
     v .follows .few
 
 scan-byte-requires : tie.Need-scan-byte-requires Inv-loop μ-loop
 scan-byte-requires c κs =
-    let start = c .before .before .before .before .before .before .before .before .before .before .before in
+    let start = c .before .before .before .before .before .before .before .before .before .before .before .before in
     let l = c .before .before .before .before .before .loop in
     let v = feeding-some _ (start .args .piece .now) _ _ (l .i) (l .inv) (start .pre .1 .1) in
     let a = asks _ _ _ _ _ _ _ (c .before .before .before .if1 .taken) v in
@@ -63,7 +63,7 @@ loop-less c = search needs
 
 loop-again : tie.Need-loop-again Inv-loop μ-loop
 loop-again c =
-    let start = c .before .before .before .before .before .before .before .before in
+    let start = c .before .before .before .before .before .before .before .before .before in
     let l = c .before .before .loop in
     let more = c .before .loop-test .taken in
     ⊎-elim
@@ -78,7 +78,7 @@ loop-again c =
 
 returns : tie.Need-returns Inv-loop μ-loop
 returns c =
-    let over : length (c .before .before .before .before .before .before .before .args .piece .now) ≤ c .before .loop .i = omega
+    let over : length (c .before .before .before .before .before .before .before .before .args .piece .now) ≤ c .before .loop .i = omega
     (arith, c .loop-test .left) in
     λ f w. feeding-all _ _ _ _ _ over (c .before .loop .inv) f w
 

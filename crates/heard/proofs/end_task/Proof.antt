@@ -1,18 +1,18 @@
 -- `heard::end_task` meets its contract.
 use borrow.Author.Needs.{needs}
 use mathlib.Core.Path.{sym, ap, _∙_}
-use Rattle.feeds.specs.LineScan.{heardTask}
 use Rattle.lists.specs.Lists.{members}
+use Rattle.feeds.specs.LineScan.{heardTask}
 use Rattle.heard.proofs.Scanning.{num-none, num-some}
 use Rattle.heard.proofs.end_task.Statement.{statement}
 use Rattle.heard.proofs.end_task.Tie as tie
 
 returns : tie.Need-returns
 returns c =
-    let a = c .before .args in (
+    let s = c .before .args .s in (
       c .before .pre,
-      ap (heardTask (a .time) (a .low) (a .rises) (a .names) (members (a .named .now)))
-          (sym (num-none (a .digits) (a .value) (c .if1 .taken))),
+      ap (heardTask (s .time) (s .low) (s .rises) (s .names) (members (c .before .args .named .now)))
+          (sym (num-none (s .digits) (s .value) (c .if1 .taken))),
     )
 
 name-task-requires : tie.Need-name-task-requires
@@ -23,11 +23,12 @@ is-task-requires c κs = search needs
 
 returns-2 : tie.Need-returns-2
 returns-2 c =
-    let a = c .before .before .before .before .args in (
-      c .before .name-task .ensures .0,
-      rw (c .is-task .ensures, c .before .name-task .ensures .1)
-          (ap (heardTask (a .time) (a .low) (a .rises) (a .names) (members (a .named .now)))
-          (sym (num-some (a .digits) (a .value) (c .before .before .before .if1 .left)))),
+    let a = c .before .before .before .before .before .before .args in
+    let s = a .s in (
+      c .before .before .before .name-task .ensures .0,
+      rw (c .before .before .is-task .ensures, c .before .before .before .name-task .ensures .1)
+          (ap (heardTask (s .time) (s .low) (s .rises) (s .names) (members (a .named .now)))
+          (sym (num-some (s .digits) (s .value) (c .before .before .before .before .before .if1 .left)))),
     )
 
 pub end-task-spec : {M : Type 1} → statement M

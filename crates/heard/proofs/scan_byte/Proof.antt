@@ -1,82 +1,45 @@
 -- `heard::scan_byte` meets its contract.
 use borrow.Author.Needs.{needs}
-use mathlib.Core.Path.{_≡_, sym, ap, _∙_}
-use Rattle.rules.specs.Slot.{TaskSet}
-use Rattle.feeds.specs.LineScan.{scanByte}
-use Rattle.feeds.specs.Bounds.{LineSmall}
-use Rattle.heard.specs.declared.Scan.{Scan}
-use Rattle.heard.specs.Scans.{scanAs}
-use Rattle.heard.proofs.Scanning.{small-task}
+use mathlib.Core.Path.{_≡_}
+use Prim.Native.Nat.{_≤_}
+use native.Mathlib.Omega.{arith}
+use Rattle.heard.proofs.Scanning.{not-first, small-number, wrong-on}
 use Rattle.heard.proofs.scan_byte.Statement.{statement}
 use Rattle.heard.proofs.scan_byte.Tie as tie
 
-enum-told : tie.Need-enum-told
-enum-told c = search needs
-
-enum-known-s : tie.Need-enum-known-s
-enum-known-s c = search needs
-
 word-byte-requires : tie.Need-word-byte-requires
-word-byte-requires c κs = search needs
-
-enum-known-s-2 : tie.Need-enum-known-s-2
-enum-known-s-2 c = search needs
-
-time-byte-requires : tie.Need-time-byte-requires
-time-byte-requires c κs =
-    let s = c .before .before .before .before in
-    (rw (c .before .before .s2 .given .1) at (s .pre .0), s .pre .1)
-
-enum-known-s-3 : tie.Need-enum-known-s-3
-enum-known-s-3 c = search needs
-
-task-byte-requires : tie.Need-task-byte-requires
-task-byte-requires c κs =
-    let s = c .before .before .before .before in
-    (small-task (s .args .s) (s .args .named .now) _ _ _ _ _ _ (c .before .before .s3 .given .1) (s .pre .0), s .pre .1)
+word-byte-requires c κs = c .if1 .taken
 
 returns : tie.Need-returns
-unfolding scanByte
 returns c =
-    let s = c .before .before in
-    (s .pre .1, ap (λ (x : Scan). scanByte (scanAs x (s .args .named .now)) (s .args .b)) (sym (c .enum-told .given .1)))
+    let start = c .before .before in
+    (start .pre .1, c .word-byte .ensures (start .args .named .now))
 
 returns-2 : tie.Need-returns-2
 returns-2 c =
-    let s = c .before .before .before .before in (
-      s .pre .1,
-      c .word-byte .ensures (s .args .named .now) ∙
-          ap (λ (x : Scan). scanByte (scanAs x (s .args .named .now)) (s .args .b)) (sym (c .before .before .s .given .1)),
+    let start = c .before .before in
+    let s = start .args .s in (
+      start .pre .1,
+      wrong-on (s .phase) (s .digits) (s .value) (s .time) (s .low) (s .rises) (s .names) _ (start .args .b) (c .if2 .taken),
+    )
+
+number-byte-requires : tie.Need-number-byte-requires
+number-byte-requires c κs =
+    let start = c .before .before .before in
+    let s = start .args .s in
+    let from : 1 ≤ s .phase = not-first (s .phase) (c .before .before .if1 .left) in
+    let to : s .phase ≤ 2 = omega (arith, c .before .if2 .left) in (
+      record {
+        from = from;
+        to = to;
+        small = small-number (s .phase) (s .digits) (s .value) (s .time) (s .low) (s .rises) (s .names) _ from to (start .pre .0);
+      },
+      start .pre .1,
     )
 
 returns-3 : tie.Need-returns-3
-returns-3 c =
-    let s = c .before .before .before .before .before in (
-      c .time-byte .ensures .0,
-      c .time-byte .ensures .1 ∙
-          ap (λ (x : Scan). scanByte (scanAs x (s .args .named .now)) (s .args .b)) (sym (c .before .before .before .s2 .given .1)),
-    )
-
-returns-4 : tie.Need-returns-4
-returns-4 c =
-    let s = c .before .before .before .before .before in (
-      c .task-byte .ensures .0,
-      c .task-byte .ensures .1 ∙
-          ap (λ (x : Scan). scanByte (scanAs x (s .args .named .now)) (s .args .b)) (sym (c .before .before .before .s3 .given .1)),
-    )
+returns-3 c = search needs
 
 pub scan-byte-spec : {M : Type 1} → statement M
 scan-byte-spec =
-    tie.close
-    (tie.spec
-    enum-told
-    enum-known-s
-    word-byte-requires
-    enum-known-s-2
-    time-byte-requires
-    enum-known-s-3
-    task-byte-requires
-    returns
-    returns-2
-    returns-3
-    returns-4)
+    tie.close (tie.spec word-byte-requires returns returns-2 number-byte-requires returns-3)
