@@ -20,7 +20,7 @@ use Rattle.lists.specs.Lists.{tab-at, tab-cong, members}
 use Rattle.lists.specs.Sums.{sum-cong}
 use Rattle.lists.specs.Tests.{and-left}
 use Rattle.lists.specs.Fuse.{fuse, same-each}
-use Rattle.bridge.specs.Steps.{Full, demoted-full, lowered-full, readied-full}
+use Rattle.bridge.specs.Steps.{Full, demoted-full, lowered-full, readied-full, worked-same}
 use Rattle.jobs.specs.Tasks.{workedIf, workedOn}
 use Rattle.queue.specs.Queues.{Chosen}
 use Rattle.queue.specs.Lowered.{Alike, lowersTask, lowersIn, lowered-each, lowered-alike}
@@ -59,6 +59,14 @@ module _ (g : Setup) (now : ℕ) (d : Run) (h : Full d) where
       same-each _ (λ i t. workedOn (lowersIn g d) (runs i) t) (d .tasks) noTask
       (λ i l. with-pick (runs i) (lowersTask (lowersIn g d) (getD (d .tasks) i noTask))))
 
+  -- the run that a pass over each task leaves
+  pub worked-run : (runs : TaskSet) (b : Bool) (n : ℕ) → n ≡ jobsNow d → b ≡ (demoting (g .policy) && leb n (g .procs)) → (a : Run)
+      → a ≡ eachTask (λ i t. workedOn b (runs i) t) d → a ≡ worked runs (lowered g d)
+  unfolding contentionFree
+  worked-run runs b n e q a w =
+      let z : b ≡ lowersIn g d = q ∙ ap (λ k. demoting (g .policy) && leb k (g .procs)) e in
+      (rw z at w) ∙ sym (works runs)
+
   -- what the last pass leaves is steps 4 to 6
   pub worked-as : (runs : TaskSet) (b : Bool) (n : ℕ) → n ≡ jobsNow d → b ≡ (demoting (g .policy) && leb n (g .procs))
       → (a : Run) (fs ls : List Bool) → Left b now runs d a fs ls → Works g now runs d a fs ls
@@ -73,14 +81,6 @@ module _ (g : Setup) (now : ℕ) (d : Run) (h : Full d) where
       }
 
 -- ---- the slot, from what its parts answer
--- a set is told by its members below 32
-worked-same : (s u : TaskSet) (r : Run) → Full r → ((i : ℕ) → i < maxTasks → s i ≡ u i) → worked s r ≡ worked u r
-unfolding worked
-worked-same s u r f h =
-    ap runOf
-    (same-each (λ i t. pick (s i) (workedTask t) t) (λ i t. pick (u i) (workedTask t) t) (r .tasks) noTask
-    (λ i l. ap (λ b. pick b (workedTask (getD (r .tasks) i noTask)) (getD (r .tasks) i noTask)) (h i (omega arith))))
-
 module _ (g : Setup) (now : ℕ) (s : TaskSet) (r d : Run) (full : Full r) (n : ℕ) (ms ds ps : List Bool)
     (p : Settles g now s r d n ms ds ps)
     (rs : List Bool)

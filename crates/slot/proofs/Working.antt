@@ -1,7 +1,7 @@
 -- The last pass as it goes on: steps 4 to 6 of each task up to i, for a set that is given, with the sets that finished and that the next
 -- step 1 removes as missed.
 use mathlib.Core.Path.{_≡_, refl, ap, sym, _∙_}
-use mathlib.Core.Bool.{Bool, true, false, _&&_, true≢false}
+use mathlib.Core.Bool.{Bool, true, false, _&&_, _||_, true≢false}
 use mathlib.Core.List.{List}
 use Prim.Native.Nat.{ℕ, suc, _+_, _≤_, _<_}
 use native.Mathlib.Numerals.{add-one}
@@ -108,3 +108,33 @@ module _ (lowers : Bool) (now : ℕ) (runs : TaskSet) where
             (λ i u k. ap (λ (t : Task). isMissed (suc now) (t .job))
             (sym (mapAt-at workTask (r .tasks) i noTask (omega (arith, w .full))))));
       }
+
+-- ---- the run alone
+pub record Running (lowers : Bool) (runs : TaskSet) (r : Run) (ts : List Task) (i : ℕ) : Type 0 where
+  pub tasks : Filling maxTasks (mapAt (λ j t. workedOn lowers (runs j) t) (r .tasks)) (r .tasks) ts i
+
+module _ (lowers : Bool) (runs : TaskSet) (r : Run) where
+  pub running-none : Full r → Running lowers runs r (r .tasks) 0
+  running-none h = record { tasks = each-none (λ j t. workedOn lowers (runs j) t) maxTasks (r .tasks) h }
+
+  pub running-store : (ts : List Task) (i : ℕ) (v : Task) → i < maxTasks → Running lowers runs r ts i
+      → v ≡ workedOn lowers (runs i) (getD ts i noTask) → Running lowers runs r (set ts i v) (i + 1)
+  running-store ts i v l w e = record {
+    tasks = each-store (λ j t. workedOn lowers (runs j) t) maxTasks (r .tasks) ts i noTask v l (w .tasks) e;
+  }
+
+  -- it neither runs nor is lowered
+  pub running-keep : (ts : List Task) (i : ℕ) → i < maxTasks → Running lowers runs r ts i → (lowers || runs i) ≡ false
+      → Running lowers runs r ts (i + 1)
+  running-keep ts i l w e = record {
+    tasks = each-keep (λ j t. workedOn lowers (runs j) t) maxTasks (r .tasks) ts i noTask l (w .tasks)
+        (untouched lowers (runs i) (getD ts i noTask) e);
+  }
+    where
+      untouched : (a b : Bool) (t : Task) → (a || b) ≡ false → workedOn a b t ≡ t
+      untouched true b t e = absurd (true≢false e)
+      untouched false true t e = absurd (true≢false e)
+      untouched false false t e = refl
+
+  pub running-all : (a : Run) (i : ℕ) → maxTasks ≤ i → Running lowers runs r (a .tasks) i → a ≡ eachTask (λ j t. workedOn lowers (runs j) t) r
+  running-all a i l w = ap runOf (filling-all maxTasks _ _ _ i l (w .tasks))
