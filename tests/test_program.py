@@ -24,18 +24,23 @@ EXAMPLES = os.path.join(ROOT, "examples")
 
 DIGEST = os.path.join(ROOT, "bin", "digest")
 
-USAGE = b"""usage: thrumcomb [-q] [counts | slot N | write] < CASE
+USAGE = b"""usage: thrumcomb [-q] [counts | slot N | write | slots | log FILE] < CASE
        thrumcomb help | -h | --help | --version
 
 without a word  the replay: run, a job line for each release, total
 counts          the contention-free count of each task
 slot N          the tasks that run in slot N
 write           the case in its canonical text
--q              leaves out the words on standard error for a refused case
+slots           the slot log of the replay: slot, time and the tasks that run, a line a slot
+log FILE        whether the slot log in FILE keeps the rules of the case: accepted, or refused
+-q              leaves out the words on standard error for a refused case or log
 
 A case that breaks a rule, or has a task that is never released, prints refused, number, place.
-The exit status is 0; 2 for a refused case; 64 for words that ask for nothing that there is;
-1 where the case could not be read, the answer not be written, or the program not be built.
+A slot log may break equal deadlines either way. In it a number of ten digits or with a leading
+zero is 17, a number that is no task of the table 18.
+The exit status is 0; 2 for a refused case or log; 64 for words that ask for nothing that there
+is; 1 where the case or FILE could not be read, the answer not be written, or the program not be
+built.
 """
 
 # What is said of each refusal that a text can meet, P being its place.

@@ -1,14 +1,29 @@
-// Reads a case from standard input and prints what is asked of it: what is printed is put into bytes first and then written whole.
+// Reads a case from standard input and prints what is asked of it: what is printed is put into bytes first and then written whole, or,
+// where it is a log, a piece at a time; a log in a file is read a piece at a time.
 // How it ended is told on descriptor 3 once all else is written (`tell`), since a program of this language has no exit status.
 ghost use mathlib.Core.Path.{_≡_};
 ghost use Prim.Native.Nat.{_≤_};
 ghost use lib.ListN.{length};
+ghost use Rattle.rules.specs.Case.{caseOf};
+ghost use Rattle.rules.specs.Refusals.{Accepted};
 ghost use Rattle.report.specs.Cases.{printRoom};
+ghost use Rattle.counts.specs.Needs.{Counts};
+ghost use Rattle.follow.specs.Follows.{Followed};
+use blame::BLAME_ROOM;
+use follow::Log;
 use libc::STDERR_FILENO;
 use libc::STDIN_FILENO;
 use libc::STDOUT_FILENO;
+use prints::LINE_ROOM;
+use reader::RELEASES_ROOM;
+use reader::TASKS_ROOM;
 use rules::Fault;
+use rules::Logged;
+use rules::MAX_TASKS;
 use rules::MAX_TEXT;
+use rules::RELEASE_WIDTH;
+use rules::TASK_WIDTH;
+use rules::Taken;
 use wishes::Asked;
 use wishes::Wish;
 
@@ -98,18 +113,23 @@ fn say_refusal(fault: Fault) {
 fn say_usage(fd: i32) -> bool {
     io::write_all(
         fd,
-        b"usage: thrumcomb [-q] [counts | slot N | write] < CASE
+        b"usage: thrumcomb [-q] [counts | slot N | write | slots | log FILE] < CASE
        thrumcomb help | -h | --help | --version
 
 without a word  the replay: run, a job line for each release, total
 counts          the contention-free count of each task
 slot N          the tasks that run in slot N
 write           the case in its canonical text
--q              leaves out the words on standard error for a refused case
+slots           the slot log of the replay: slot, time and the tasks that run, a line a slot
+log FILE        whether the slot log in FILE keeps the rules of the case: accepted, or refused
+-q              leaves out the words on standard error for a refused case or log
 
 A case that breaks a rule, or has a task that is never released, prints refused, number, place.
-The exit status is 0; 2 for a refused case; 64 for words that ask for nothing that there is;
-1 where the case could not be read, the answer not be written, or the program not be built.
+A slot log may break equal deadlines either way. In it a number of ten digits or with a leading
+zero is 17, a number that is no task of the table 18.
+The exit status is 0; 2 for a refused case or log; 64 for words that ask for nothing that there
+is; 1 where the case or FILE could not be read, the answer not be written, or the program not be
+built.
 ",
     )
 }
@@ -209,6 +229,250 @@ fn run(wish: Wish, quiet: bool) {
     }
 }
 
+// ---- a refusal that is the whole answer
+
+fn print_refusal(fault: Fault) -> bool {
+    let mut line = [0u8; LINE_ROOM];
+    let n = prints::put_refused(&mut line, fault.number, fault.place);
+    io::write_all(STDOUT_FILENO, &line[..n])
+}
+
+fn refuse_case(fault: Fault, quiet: bool) {
+    if print_refusal(fault) {
+        finish(fault, quiet);
+    } else {
+        fail(b"thrumcomb: write");
+    }
+}
+
+// ---- the check of a slot log
+
+// Follows the bytes of a file until they end or something is at fault: what comes behind a fault does not matter, and is not waited for.
+// Where it says that it failed, the check stands for a part of the file alone.
+fn follow_file(
+    fd: i32,
+    procs: u32,
+    policy: u32,
+    table: &[u32],
+    counts: [u32; MAX_TASKS],
+    end: u32,
+    trace: &[u32],
+    failed: &mut bool,
+) -> Log
+    requires { ⌜ Accepted (caseOf procs policy (now table) end (now trace)) ⌝ }
+    requires { ⌜ Counts procs (now table) counts ⌝ }
+    ensures { λ r. ⌜ Followed (caseOf procs policy (now (table .entry)) end (now (trace .entry))) r ⌝ }
+{
+    let mut piece = io::large_buffer();
+    let mut log = follow::open_log();
+    *failed = true;
+    // a proved loop has to end, and nothing says that a file does: so it counts its turns down, from a number that no run uses up
+    let mut turns = u64::MAX;
+    while 0 < turns {
+        let got = libc::read(fd, &mut piece);
+        if got < 0 {
+            return log;
+        }
+        let n = io::count(got, &piece);
+        if n == 0 {
+            *failed = false;
+            return log;
+        }
+        log = follow::feed(log, procs, policy, table, counts, end, trace, &piece[0..n]);
+        if log.number != 0 {
+            *failed = false;
+            return log;
+        }
+        turns -= 1;
+    }
+    log
+}
+
+// Says what is wrong in a slot that breaks the rule, by the check as it stopped there. The end of its line is heard once more, for
+// whether all that it names are tasks: to name its last task again changes nothing.
+fn say_blame(log: Log, procs: u32, policy: u32) {
+    let mut words = [0u8; BLAME_ROOM];
+    let mut named = log.named;
+    let run = log.run;
+    let scan = log.scan;
+    let clock = log.lines;
+    let ended = heard::line_end(scan, &mut named);
+    let names = follow::names_tasks(ended);
+    let n = blame::put_blame(&mut words, run, procs, policy, clock, names, &named);
+    say(&words[..n]);
+}
+
+// Tells that a log is refused, whose answer is written.
+fn finish_log(log: Log, procs: u32, policy: u32, fault: Fault, quiet: bool) {
+    let number = fault.number;
+    if !quiet {
+        say_refusal(fault);
+        if number == 18 {
+            say_blame(log, procs, policy);
+        }
+    }
+    tell(REFUSED);
+}
+
+fn refuse_log(log: Log, procs: u32, policy: u32, fault: Fault, quiet: bool) {
+    if print_refusal(fault) {
+        finish_log(log, procs, policy, fault, quiet);
+    } else {
+        fail(b"thrumcomb: write");
+    }
+}
+
+fn accept_log() {
+    if io::write_all(STDOUT_FILENO, b"accepted\n") {
+        tell(DONE);
+    } else {
+        fail(b"thrumcomb: write");
+    }
+}
+
+// Checks the log in a file against a case. Where a read failed nothing is written: what came may be a shorter log than what was there.
+fn judge_file(fd: i32, procs: u32, policy: u32, table: &[u32], end: u32, trace: &[u32], quiet: bool)
+    requires { ⌜ Accepted (caseOf procs policy (now table) end (now trace)) ⌝ }
+{
+    let mut failed = false;
+    let free = counts::free_counts(procs, table);
+    let log = follow_file(fd, procs, policy, table, free, end, trace, &mut failed);
+    if failed {
+        fail(b"thrumcomb: read");
+        return;
+    }
+    let Logged::Refused { number, place } = follow::close_log(log, end) else {
+        accept_log();
+        return;
+    };
+    refuse_log(log, procs, policy, Fault { number, place }, quiet);
+}
+
+// ---- our own slot log
+
+// Writes the slot log of a case, a piece at a time.
+fn print_slots(procs: u32, policy: u32, table: &[u32], end: u32, trace: &[u32])
+    requires { ⌜ Accepted (caseOf procs policy (now table) end (now trace)) ⌝ }
+{
+    let mut piece = io::large_buffer();
+    let free = counts::free_counts(procs, table);
+    let mut play = ownlog::start();
+    while play.clock < end {
+        let mut n: usize = 0;
+        play = ownlog::put_slots(
+            play,
+            procs,
+            policy,
+            table,
+            &free,
+            end,
+            trace,
+            &mut piece,
+            &mut n,
+        );
+        if !io::write_all(STDOUT_FILENO, &piece[0..n]) {
+            fail(b"thrumcomb: write");
+            return;
+        }
+    }
+    tell(DONE);
+}
+
+// ---- what is asked of a log
+
+// In the place of a file's descriptor: it is our own log that is asked for.
+const NO_FILE: i32 = -1;
+
+fn serve_case(fd: i32, procs: u32, policy: u32, table: &[u32], end: u32, trace: &[u32], quiet: bool)
+    requires { ⌜ Accepted (caseOf procs policy (now table) end (now trace)) ⌝ }
+{
+    if fd < 0 {
+        print_slots(procs, policy, table, end, trace);
+    } else {
+        judge_file(fd, procs, policy, table, end, trace, quiet);
+    }
+}
+
+// What is at fault with a text, by what the reader took from it.
+fn fault_in(taken: Taken) -> Fault {
+    match taken {
+        Taken::Refused { number, place } => Fault { number, place },
+        Taken::Read {
+            procs: _,
+            policy: _,
+            end: _,
+            tasks: _,
+            releases: _,
+        } => Fault {
+            number: 0,
+            place: 0,
+        },
+    }
+}
+
+// Takes the case of a text: the log in the file is checked against it, or its own is printed. A refused case is parted from an accepted
+// one before any line is written.
+fn serve_text(fd: i32, text: &[u8], quiet: bool) {
+    let mut rows = [0u32; TASKS_ROOM];
+    let mut times = [0u32; RELEASES_ROOM];
+    let taken = reader::read(text, &mut rows, &mut times);
+    let Taken::Read {
+        procs,
+        policy,
+        end,
+        tasks,
+        releases,
+    } = taken
+    else {
+        refuse_case(fault_in(taken), quiet);
+        return;
+    };
+    let t = tasks * TASK_WIDTH;
+    let r = releases * RELEASE_WIDTH;
+    serve_case(fd, procs, policy, &rows[0..t], end, &times[0..r], quiet);
+}
+
+// Opens the file that a word of the program names: its descriptor, or one below 0. A word that is too long for a path is not cut short.
+fn open_named(word: usize) -> i32 {
+    let mut path = io::buffer();
+    let n = os::arg(word, &mut path);
+    if os::errno() != 0 {
+        return -1;
+    }
+    os::open_read(&path[..n])
+}
+
+// Reads the case and prints its own log.
+fn run_slots(quiet: bool) {
+    let mut text = [0u8; MAX_TEXT + 1];
+    let input = read_text(STDIN_FILENO, &mut text);
+    if input.failed {
+        fail(b"thrumcomb: read");
+        return;
+    }
+    let n = input.length;
+    serve_text(NO_FILE, &text[..n], quiet);
+}
+
+// Reads the case and checks the log in the file that a word names. Where the file cannot be opened nothing is written, be the case what
+// it may.
+fn run_log(word: usize, quiet: bool) {
+    let mut text = [0u8; MAX_TEXT + 1];
+    let input = read_text(STDIN_FILENO, &mut text);
+    if input.failed {
+        fail(b"thrumcomb: read");
+        return;
+    }
+    let fd = open_named(word);
+    if fd < 0 {
+        fail(b"thrumcomb: open");
+        return;
+    }
+    let n = input.length;
+    serve_text(fd, &text[..n], quiet);
+    libc::close(fd);
+}
+
 fn main() {
     let words = wished();
     let wish = words.wish;
@@ -216,8 +480,8 @@ fn main() {
     match wish {
         Wish::Unknown => say_unknown(),
         Wish::Help => print_help(),
-        Wish::Slots => say_unknown(),
-        Wish::Log { word: _ } => say_unknown(),
+        Wish::Slots => run_slots(quiet),
+        Wish::Log { word } => run_log(word as usize, quiet),
         _ => run(wish, quiet),
     }
 }
