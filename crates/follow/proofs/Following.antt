@@ -31,6 +31,7 @@ use Rattle.lists.specs.Holds.{holds-says}
 use Rattle.bridge.specs.Steps.{Full, demoted-full, readied-full}
 use Rattle.bridge.specs.Turn.{Reached}
 use Rattle.rule.specs.Same.{keeps-lowered}
+use Rattle.rule.specs.NoneWait.{keeps-among}
 use Rattle.slot.specs.Stepped.{settledRun, Among}
 use Rattle.traces.specs.Traces.{releases}
 use Rattle.traces.specs.Given.{rel-at, readied-same}
@@ -112,19 +113,6 @@ module _ (c : Case) (n : ℕ) (scan : Scan) (xs : List Bool) (r : Run) (e : Ende
       kept false z y = absurd (omega arith)
 
 -- ---- one slot
--- the tasks of a set that keeps the rule have jobs
-keeps-among : (g : Setup) (now : ℕ) (r : Run) (runs : TaskSet) → keepsRule g now r runs ≡ true → Among runs r
-unfolding keepsRule
-keeps-among g now r runs e i l h =
-    let sized = eqb (countIn runs 0 maxTasks) (min (g .procs) (jobsNow r)) in
-    let inside = holdsBelow (λ i. not (runs i) || present r i) maxTasks in
-    implied (runs i) (present r i)
-    (holds-says (λ i. not (runs i) || present r i) maxTasks (and-right sized inside (and-left (sized && inside) _ e)) i l) h
-  where
-    implied : (a b : Bool) → (not a || b) ≡ true → a ≡ true → b ≡ true
-    implied true b e h = e
-    implied false b e h = absurd (false≢true h)
-
 module _ (c : Case) (t : ℕ) (names : Bool) (xs rel : List Bool) (r s : Run) (full : Full r)
     (re : rel ≡ releases (c .trace) (releaseCount (c .trace)) t) (settled : s ≡ settledRun (setupIn c) t (members rel) r)
     (k : Bool) (kept : k ≡ keepsRule (setupIn c) t s (members xs)) where

@@ -79,7 +79,7 @@ fn follow_slot(
         &mut demoted,
         &mut present,
     );
-    let keeps = rule::keeps(s, procs, policy, clock, jobs, named);
+    let keeps = rule::keeps(s, procs, policy, clock, jobs, &present, named);
     if names & keeps {
         *number = 0;
         return slot::work(

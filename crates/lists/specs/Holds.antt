@@ -1,10 +1,11 @@
 -- A test of each number below n (`holdsBelow` of rules, Words): what it says and how it comes about; some number passes a test or none
 -- does. Nothing of scheduling.
-use mathlib.Core.Path.{_≡_, refl, ap₂}
+use mathlib.Core.Path.{_≡_, refl, ap, ap₂, _∙_}
 use mathlib.Core.Bool.{Bool, true, false, _&&_}
 use mathlib.Core.Logic.{_⊎_, inl, inr}
-use Prim.Native.Nat.{ℕ, zero, suc, _<_}
+use Prim.Native.Nat.{ℕ, zero, suc, _+_, _<_}
 use native.Mathlib.Nat.{eq-or-lt-of-le}
+use native.Mathlib.Numerals.{add-one}
 use native.Mathlib.Omega.{arith}
 use Rattle.rules.specs.Words.{holdsBelow}
 use Rattle.lists.specs.Tests.{and-left, and-right, and-both}
@@ -24,6 +25,12 @@ pub holds-of : (p : ℕ → Bool) (n : ℕ) → ((i : ℕ) → i < n → p i ≡
 unfolding holdsBelow
 holds-of p zero h = refl
 holds-of p (suc n) h = and-both (holdsBelow p n) (p n) (holds-of p n (λ i x. h i (omega arith))) (h n (omega arith))
+
+-- of one number more, as a loop goes on that keeps what the tests so far say
+pub holds-more : (p : ℕ → Bool) (n : ℕ) (before more : Bool) → before ≡ holdsBelow p n → more ≡ (before && p n)
+    → more ≡ holdsBelow p (n + 1)
+unfolding holdsBelow
+holds-more p n before more e h = rw (add-one n) (h ∙ ap (λ (x : Bool). x && p n) e)
 
 -- some number below n passes the test, or none does
 pub some-or-none : (p : ℕ → Bool) (n : ℕ) → ((i : ℕ) × ((i < n) × (p i ≡ true))) ⊎ ((i : ℕ) → i < n → p i ≡ false)

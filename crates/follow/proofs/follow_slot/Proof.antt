@@ -19,12 +19,13 @@ settle-requires c κs =
     needed _ (legal _ (q .0)) _ (q .1 .1 .0) _ (c .before .before .before .before .before .take-releases .ensures .2) _ (q .1 .0)
 
 keeps-requires : tie.Need-keeps-requires
-keeps-requires c κs = c .settle .ensures .jobs
+keeps-requires c κs = let p = c .before .settle .ensures in (p .jobs, p .present)
 
 work-requires : tie.Need-work-requires
 work-requires c κs =
-    let start = c .before .before .before .before .before .before .before .before .before .before .before .before .before .before .before in
-    let p = c .before .before .before .before .settle .ensures in
+    let start = c .before .before .before .before .before .before .before .before .before .before .before .before .before .before .before
+    .before in
+    let p = c .before .before .before .before .before .settle .ensures in
     let g = legal _ (start .pre .0) in (
       omega (arith, start .pre .1 .1 .0, g .end-small),
       (
@@ -32,7 +33,8 @@ work-requires c κs =
         slot-among (caseOf (start .args .procs) (start .args .policy) (start .args .table .now) (start .args .end)
             (start .args .trace .now)) _ (start .args .names) (start .args .named .now) _ _ _
             (simp length-map at (start .good .0 .1 .1 .0 .1 .0 .1))
-            (c .before .before .before .before .before .before .before .before .before .before .take-releases .ensures .2) (p .run) _
+            (c .before .before .before .before .before .before .before .before .before .before .before .take-releases .ensures .2)
+            (p .run) _
             (c .before .before .before .keeps .ensures _) (c .before .before .if1 .taken),
       ),
     )
@@ -40,18 +42,19 @@ work-requires c κs =
 returns : tie.Need-returns
 returns c =
     let start = c .before .before .before .before .before .before .before .before .before .before .before .before .before .before .before
+    .before
     .before in
-    let p = c .before .before .before .before .before .settle .ensures in
-    let t = c .before .before .before .before .before .before .before .before .before .before .before .take-releases .ensures in
+    let p = c .before .before .before .before .before .before .settle .ensures in
+    let t = c .before .before .before .before .before .before .before .before .before .before .before .before .take-releases .ensures in
     slot-kept _ _ (start .args .names) (start .args .named .now) _ _ _ (simp length-map at (start .good .0 .1 .1 .0 .1 .0 .1)) (t .2)
     (p .run) _ (c .before .before .before .before .keeps .ensures _) _ _ (t .1) (c .before .before .before .if1 .taken)
     (c .work .ensures _ .run)
 
 returns-2 : tie.Need-returns-2
 returns-2 c =
-    let start = c .before .before .before .before .before .before .before .before .before .before .before .before .before in
-    let p = c .before .before .settle .ensures in
-    let t = c .before .before .before .before .before .before .before .before .take-releases .ensures in
+    let start = c .before .before .before .before .before .before .before .before .before .before .before .before .before .before in
+    let p = c .before .before .before .settle .ensures in
+    let t = c .before .before .before .before .before .before .before .before .before .take-releases .ensures in
     slot-broken _ _ (start .args .names) (start .args .named .now) _ _ _ (simp length-map at (start .good .0 .1 .1 .0 .1 .0 .1)) (t .2)
     (p .run) _ (c .before .keeps .ensures _) _ (t .1) (c .if1 .left)
 

@@ -7,18 +7,27 @@ use native.Mathlib.Omega.{arith}
 use Rattle.rules.specs.Limits.{maxTasks}
 use Rattle.rules.specs.Slot.{setupOf}
 use Rattle.lists.specs.Lists.{members}
+use Rattle.rule.specs.NoneWait.{none-waits}
 use Rattle.rule.proofs.Passing.{Passing, passing-none, passing-runs, passing-absent, passing-waits, passing-idle, passing-few}
 use Rattle.rule.proofs.Passing.{wrong-number, wrong-order, right-order}
 use Rattle.rule.proofs.keeps.Statement.{statement}
 use Rattle.rule.proofs.keeps.Tie as tie
 
 abbrev Inv-loop : tie.InvT-loop
-Inv-loop procs policy clock jobs named r count₀ all-there₀ waiting₀ running₀ i₀ count all-there waiting running i =
+Inv-loop procs policy clock jobs present named r count₀ all-there₀ waiting₀ running₀ i₀ count all-there waiting running i =
     Passing policy clock r (members named) i count all-there waiting running
 
 abbrev μ-loop : tie.MeasureT-loop
-μ-loop procs policy clock jobs named r count₀ all-there₀ waiting₀ running₀ i₀ count all-there waiting running i =
+μ-loop procs policy clock jobs present named r count₀ all-there₀ waiting₀ running₀ i₀ count all-there waiting running i =
     maxTasks - i
+
+same-sets-requires : tie.Need-same-sets-requires Inv-loop μ-loop
+same-sets-requires c κs = search needs
+
+returns : tie.Need-returns Inv-loop μ-loop
+returns c = λ table.
+    let q = c .before .before .pre in
+    c .same-sets .ensures ∙ none-waits (setupOf _ _ table) _ _ _ (omega (arith, q .0, c .before .if1 .taken)) _ (q .1)
 
 loop-holds : tie.Need-loop-holds Inv-loop μ-loop
 loop-holds c = passing-none _ _ _ _
@@ -32,8 +41,8 @@ element-copy-out-t c = search needs
 has-job-requires : tie.Need-has-job-requires Inv-loop μ-loop
 has-job-requires c κs = search needs
 
-element-copy-out-if1 : tie.Need-element-copy-out-if1 Inv-loop μ-loop
-element-copy-out-if1 c = search needs
+element-copy-out-if2 : tie.Need-element-copy-out-if2 Inv-loop μ-loop
+element-copy-out-if2 c = search needs
 
 add-count : tie.Need-add-count Inv-loop μ-loop
 add-count c =
@@ -75,33 +84,33 @@ loop-again c =
     rw (w .4, w .5, w .6, w .7, w .3 .ensures)
     (passing-waits _ _ _ _ _ _ _ _ _ k v _ (w .0 .left) (sym e ∙ w .1 .taken) (t .0) (t .1)))
     (λ w. rw (w .2, w .3, w .4, w .5) (passing-idle _ _ _ _ _ _ _ _ _ k v (w .0 .left) (sym e ∙ w .1 .left)))))
-    (c .if1 .came)
+    (c .if2 .came)
 
 lesser-requires-2 : tie.Need-lesser-requires-2 Inv-loop μ-loop
 lesser-requires-2 c κs = search needs
 
-returns : tie.Need-returns Inv-loop μ-loop
-returns c = λ table.
-    let l = c .before .before .loop-test .left in
-    let v = c .before .before .before .loop .inv in
-    let q = c .before .before .before .before .pre in
-    wrong-number (setupOf _ _ table) _ _ _ _ _ _ _ _ _ l v q
-    (λ e. omega (arith, e, c .if4 .taken, c .before .lesser2 .ensures))
-
 returns-2 : tie.Need-returns-2 Inv-loop μ-loop
 returns-2 c = λ table.
-    let l = c .before .before .before .loop-test .left in
-    let v = c .before .before .before .before .loop .inv in
-    let q = c .before .before .before .before .before .pre in
-    wrong-order (setupOf _ _ table) _ _ _ _ _ _ _ _ _ l v q (omega (arith, c .if5 .taken))
+    let l = c .before .before .loop-test .left in
+    let v = c .before .before .before .loop .inv in
+    let q = c .before .before .before .before .before .pre .0 in
+    wrong-number (setupOf _ _ table) _ _ _ _ _ _ _ _ _ l v q
+    (λ e. omega (arith, e, c .if5 .taken, c .before .lesser2 .ensures))
 
 returns-3 : tie.Need-returns-3 Inv-loop μ-loop
 returns-3 c = λ table.
     let l = c .before .before .before .loop-test .left in
     let v = c .before .before .before .before .loop .inv in
-    let q = c .before .before .before .before .before .pre in
+    let q = c .before .before .before .before .before .before .pre .0 in
+    wrong-order (setupOf _ _ table) _ _ _ _ _ _ _ _ _ l v q (omega (arith, c .if6 .taken))
+
+returns-4 : tie.Need-returns-4 Inv-loop μ-loop
+returns-4 c = λ table.
+    let l = c .before .before .before .loop-test .left in
+    let v = c .before .before .before .before .loop .inv in
+    let q = c .before .before .before .before .before .before .pre .0 in
     right-order (setupOf _ _ table) _ _ _ _ _ _ _ _ _ l v q
-    (omega (arith, c .before .if4 .left, c .before .before .lesser2 .ensures)) (omega (arith, c .if5 .left))
+    (omega (arith, c .before .if5 .left, c .before .before .lesser2 .ensures)) (omega (arith, c .if6 .left))
 
 pub keeps-spec : {M : Type 1} → statement M
 keeps-spec =
@@ -109,11 +118,13 @@ keeps-spec =
     (tie.spec
     Inv-loop
     μ-loop
+    same-sets-requires
+    returns
     loop-holds
     mul-t
     element-copy-out-t
     has-job-requires
-    element-copy-out-if1
+    element-copy-out-if2
     add-count
     turn-of-requires
     greater-requires
@@ -123,6 +134,6 @@ keeps-spec =
     loop-less
     loop-again
     lesser-requires-2
-    returns
     returns-2
-    returns-3)
+    returns-3
+    returns-4)
