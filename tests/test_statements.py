@@ -207,7 +207,7 @@ class PublicCalls(unittest.TestCase):
 
     def calls(self):
         found = [row for row in rows() if row.tokens("Call")]
-        self.assertEqual(len(found), 10)
+        self.assertEqual(len(found), 12)
         for row in found:
             call, = row.tokens("Call")
             path, = map(path_of, row.tokens("File"))

@@ -1,16 +1,16 @@
 -- How the state of the check goes on: what a line at its end says of the fault, the run and the releases, and that each byte brings the
 -- state to what stands for the next fed state.
 use mathlib.Core.Path.{_≡_, refl, sym, ap, _∙_}
-use mathlib.Core.Bool.{Bool, true, false, _&&_, _||_, not, false≢true}
+use mathlib.Core.Bool.{Bool, true, false, _&&_, _||_, not, false≢true, true≢false}
 use mathlib.Core.List.{List, [], _∷_, _++_}
 use Prim.Native.Nat.{ℕ, zero, suc, min, _+_, _≤_, _<_, _^_}
 use native.Mathlib.Numerals.{add-one}
 use native.Mathlib.Decide.{decLt}
 use native.Mathlib.Omega.{arith}
-use lib.Dec.{eqb, leb}
-use lib.ListN.{length, getD, take}
+use lib.Dec.{eqb, leb, ltb}
+use lib.ListN.{length, getD, take, drop, take-append-drop}
 use lib.Seq.{take-suc, take-all}
-use borrow.Author.Tests.{eq-eqb, ne-eqb, eqb-true, eqb-false, le-leb, lt-leb}
+use borrow.Author.Tests.{eq-eqb, ne-eqb, eqb-true, eqb-false, le-leb, lt-leb, lt-ltb, ltb-true}
 use Rattle.rules.specs.declared.Fault.{Fault}
 use Rattle.rules.specs.declared.Run.{Run}
 use Rattle.rules.specs.Words.{pick, countIn, holdsBelow, tab}
@@ -31,8 +31,7 @@ use Rattle.lists.specs.Holds.{holds-says}
 use Rattle.bridge.specs.Steps.{Full, demoted-full, readied-full}
 use Rattle.bridge.specs.Turn.{Reached}
 use Rattle.rule.specs.Same.{keeps-lowered}
-use Rattle.rule.specs.NoneWait.{keeps-among}
-use Rattle.slot.specs.Stepped.{settledRun, Among}
+use Rattle.slot.specs.Stepped.{settledRun}
 use Rattle.traces.specs.Traces.{releases}
 use Rattle.traces.specs.Given.{rel-at, readied-same}
 use Rattle.feeds.specs.LineScan.{LineScan, unread, atStart, scanByte, Heard, heardBad, heard, lineEnd}
@@ -130,9 +129,6 @@ module _ (c : Case) (t : ℕ) (names : Bool) (xs rel : List Bool) (r s : Run) (f
   -- the test of the code is the rule's
   same-test : keeps c t names xs r ≡ (names && k)
   same-test = rw (opened-run, keeps-lowered (setupIn c) t s (members xs) full-run, kept)
-
-  pub slot-among : (names && k) ≡ true → Among (members xs) s
-  slot-among e = keeps-among (setupIn c) t s (members xs) (sym kept ∙ and-right names k e)
 
   pub slot-kept : (next : ℕ) (u : Run) → Reached (c .trace) next (suc t) → (names && k) ≡ true
       → u ≡ worked (members xs) (lowered (setupIn c) s) → Slotted c t names xs r u next 0
@@ -300,6 +296,11 @@ module _ (c : Case) (r : Run) (xs : List Bool) (scan : Scan) (lines next number 
       let g = v .follows .going none in
       (g .long, rw (g .line) (v .follows .small .line), λ l. g .reached (omega arith))
 
+pub stays-all : (c : Case) (d : Log) (s : List ℕ) (f : Feed) → Follows c f d → (d .number ≡ 0 → ⊥) → Follows c (feed c f s) d
+unfolding feed
+stays-all c d [] f w bad = w
+stays-all c d (b ∷ s) f w bad = stays-all c d s (feedByte c f b) (stays c f d b w bad) bad
+
 -- ---- a piece, byte after byte
 -- whatever the state stood for before the piece, it stands for that fed with the first i bytes
 abbrev pub Feeding : Case → List ℕ → Log → ℕ → Log → Type 0
@@ -322,6 +323,29 @@ feeding-more c piece first d e i l w step f v =
 pub feeding-all : (c : Case) (piece : List ℕ) (first d : Log) (i : ℕ) → length piece ≤ i → Feeding c piece first i d
     → (f : Feed) → Follows c f first → Follows c (feed c f piece) d
 feeding-all c piece first d i l w f v = rw (take-all i piece l) at (w f v)
+
+-- a fault ends it early
+pub feeding-stopped : (c : Case) (piece : List ℕ) (first d : Log) (i : ℕ) → (d .number ≡ 0 → ⊥) → Feeding c piece first i d
+    → (f : Feed) → Follows c f first → Follows c (feed c f piece) d
+feeding-stopped c piece first d i bad w f v =
+    let e : feed c (feed c f (take i piece)) (drop i piece) ≡ feed c f piece =
+    sym (feed-append c f (take i piece) (drop i piece)) ∙ ap (feed c f) (take-append-drop i piece) in
+    rw e at (stays-all c d (drop i piece) (feed c f (take i piece)) (w f v) bad)
+
+-- the loop is over: no byte is left, or something is at fault
+pub feeding-over : (c : Case) (piece : List ℕ) (first d : Log) (i : ℕ) → (ltb i (length piece) && eqb (d .number) 0) ≡ false
+    → Feeding c piece first i d → (f : Feed) → Follows c f first → Follows c (feed c f piece) d
+feeding-over c piece first d i e w f v = go (decLt i (length piece))
+  where
+    go : Dec (i < length piece) → Follows c (feed c f piece) d
+    go (no l) = feeding-all c piece first d i (omega arith) w f v
+    go (yes l) =
+        feeding-stopped c piece first d i
+        (λ z. true≢false (rw (lt-ltb i (length piece) l, eq-eqb (d .number) 0 z) at e)) w f v
+
+-- the loop goes on
+pub goes-more : (i n number : ℕ) → (ltb i n && eqb number 0) ≡ true → (i < n) × (number ≡ 0)
+goes-more i n number e = (ltb-true i n (and-left (ltb i n) _ e), eqb-true number 0 (and-right (ltb i n) _ e))
 
 -- the state stands for something all along
 pub feeding-some : (c : Case) (piece : List ℕ) (first d : Log) (i : ℕ) → Feeding c piece first i d → Followed c first

@@ -1,10 +1,10 @@
 // The check of a vendor's slot log: a state by value that takes the log in pieces of any length, and the call that takes it whole. The
 // state follows the log, not our own replay: each slot works the set that its line names.
 ghost use mathlib.Core.Path.{_≡_};
-ghost use mathlib.Core.Bool.{Bool};
+ghost use mathlib.Core.Bool.{Bool, _&&_};
 ghost use mathlib.Core.List.{List, []};
 ghost use Prim.Native.Nat.{_+_, _≤_, _<_, _^_};
-ghost use lib.Dec.{eqb};
+ghost use lib.Dec.{eqb, ltb};
 ghost use lib.ListN.{length};
 ghost use Rattle.rules.specs.Words.{pick};
 ghost use Rattle.rules.specs.Limits.{maxTasks};
@@ -82,16 +82,7 @@ fn follow_slot(
     let keeps = rule::keeps(s, procs, policy, clock, jobs, &present, named);
     if names & keeps {
         *number = 0;
-        return slot::work(
-            s,
-            procs,
-            policy,
-            clock,
-            jobs,
-            named,
-            &mut missed,
-            &mut demoted,
-        );
+        return slot::work_run(s, procs, policy, jobs, named);
     }
     *number = 18;
     s
@@ -211,6 +202,16 @@ fn next_line(lines: u32, number: u32) -> u32
     if number == 0 { lines + 1 } else { lines }
 }
 
+// Whether there is another byte, and nothing at fault before it: what follows a fault does not matter.
+fn goes_on(i: usize, length: usize, number: u32) -> bool
+    ensures { λ r. ⌜ r ≡ (ltb i «length» && eqb number 0) ⌝ }
+{
+    if i < length {
+        return number == 0;
+    }
+    false
+}
+
 // A piece of the log. Its work is in the bytes and, once a line, in the 32 records.
 pub fn feed(
     log: Log,
@@ -236,29 +237,27 @@ pub fn feed(
     let mut next = log.next;
     let mut number = log.number;
     let mut i: usize = 0;
-    while i < piece.len() {
-        if number == 0 {
-            let b = piece[i];
-            if b == b'\n' {
-                run = close_line(
-                    run,
-                    procs,
-                    policy,
-                    table,
-                    &counts,
-                    end,
-                    trace,
-                    lines,
-                    scan,
-                    &mut named,
-                    &mut next,
-                    &mut number,
-                );
-                scan = next_scan(scan, number);
-                lines = next_line(lines, number);
-            } else {
-                scan = heard::scan_byte(scan, b, &mut named);
-            }
+    while goes_on(i, piece.len(), number) {
+        let b = piece[i];
+        if b == b'\n' {
+            run = close_line(
+                run,
+                procs,
+                policy,
+                table,
+                &counts,
+                end,
+                trace,
+                lines,
+                scan,
+                &mut named,
+                &mut next,
+                &mut number,
+            );
+            scan = next_scan(scan, number);
+            lines = next_line(lines, number);
+        } else {
+            scan = heard::scan_byte(scan, b, &mut named);
         }
         i += 1;
     }

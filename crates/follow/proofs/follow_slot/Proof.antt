@@ -1,12 +1,10 @@
 -- `follow::follow_slot` meets its contract.
 use borrow.Author.Needs.{needs}
 use mathlib.Core.Path.{_≡_, sym, _∙_}
-use native.Mathlib.Omega.{arith}
 use lib.ListN.{length-map}
-use Rattle.rules.specs.Case.{caseOf}
 use Rattle.legal.specs.Legal.{legal}
 use Rattle.traces.specs.Given.{orderly, needed}
-use Rattle.follow.proofs.Following.{slot-among, slot-kept, slot-broken}
+use Rattle.follow.proofs.Following.{slot-kept, slot-broken}
 use Rattle.follow.proofs.follow_slot.Statement.{statement}
 use Rattle.follow.proofs.follow_slot.Tie as tie
 
@@ -21,34 +19,16 @@ settle-requires c κs =
 keeps-requires : tie.Need-keeps-requires
 keeps-requires c κs = let p = c .before .settle .ensures in (p .jobs, p .present)
 
-work-requires : tie.Need-work-requires
-work-requires c κs =
-    let start = c .before .before .before .before .before .before .before .before .before .before .before .before .before .before .before
-    .before in
-    let p = c .before .before .before .before .before .settle .ensures in
-    let g = legal _ (start .pre .0) in (
-      omega (arith, start .pre .1 .1 .0, g .end-small),
-      (
-        p .jobs,
-        slot-among (caseOf (start .args .procs) (start .args .policy) (start .args .table .now) (start .args .end)
-            (start .args .trace .now)) _ (start .args .names) (start .args .named .now) _ _ _
-            (simp length-map at (start .good .0 .1 .1 .0 .1 .0 .1))
-            (c .before .before .before .before .before .before .before .before .before .before .before .take-releases .ensures .2)
-            (p .run) _
-            (c .before .before .before .keeps .ensures _) (c .before .before .if1 .taken),
-      ),
-    )
+work-run-requires : tie.Need-work-run-requires
+work-run-requires c κs = c .before .before .before .settle .ensures .jobs
 
 returns : tie.Need-returns
 returns c =
-    let start = c .before .before .before .before .before .before .before .before .before .before .before .before .before .before .before
-    .before
-    .before in
-    let p = c .before .before .before .before .before .before .settle .ensures in
-    let t = c .before .before .before .before .before .before .before .before .before .before .before .before .take-releases .ensures in
+    let start = c .before .before .before .before .before .before .before .before .before .before .before .before .before .before .before in
+    let p = c .before .before .before .before .settle .ensures in
+    let t = c .before .before .before .before .before .before .before .before .before .before .take-releases .ensures in
     slot-kept _ _ (start .args .names) (start .args .named .now) _ _ _ (simp length-map at (start .good .0 .1 .1 .0 .1 .0 .1)) (t .2)
-    (p .run) _ (c .before .before .before .before .keeps .ensures _) _ _ (t .1) (c .before .before .before .if1 .taken)
-    (c .work .ensures _ .run)
+    (p .run) _ (c .before .before .keeps .ensures _) _ _ (t .1) (c .before .if1 .taken) (c .work-run .ensures _)
 
 returns-2 : tie.Need-returns-2
 returns-2 c =
@@ -60,4 +40,4 @@ returns-2 c =
 
 pub follow-slot-spec : {M : Type 1} → statement M
 follow-slot-spec =
-    tie.close (tie.spec take-releases-requires settle-requires keeps-requires work-requires returns returns-2)
+    tie.close (tie.spec take-releases-requires settle-requires keeps-requires work-run-requires returns returns-2)
