@@ -37,8 +37,8 @@ fn put_refusal(out: &mut [u8], taken: Taken) -> usize
     }
 }
 
-// Writes what a wish asks of a case. A log, asked for or checked, may be of any length: the program writes it line by line, and nothing
-// of it is put here.
+// Writes what a wish asks of a case. A log, asked for or checked, may be of any length: the program writes it a piece at a time, and
+// nothing of it is put here.
 fn put_wish(
     out: &mut [u8],
     wish: Wish,
