@@ -240,7 +240,7 @@ class PublicCalls(unittest.TestCase):
         named = {call for _, _, call in self.calls()}
         there = re.findall(r'^pub extern "C" fn (\w+)\(', text_of("crates/thrumcomb/src/lib.rt"),
                            re.MULTILINE)
-        self.assertEqual(len(there), 5)
+        self.assertEqual(len(there), 6)
         self.assertLessEqual(set(there), named)
 
 

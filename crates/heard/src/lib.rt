@@ -126,7 +126,8 @@ fn end_time(digits: u32, value: u32, named: &mut [bool; MAX_TASKS]) -> Ended
 fn end_task(s: Scan, named: &mut [bool; MAX_TASKS]) -> Ended
     requires { ⌜ length (now named) ≡ maxTasks ⌝ }
     ensures { λ r. ⌜ (length (now (named .exit)) ≡ maxTasks) × (endedAs r (now (named .exit))
-        ≡ heardTask (s .time) (s .low) (s .rises) (s .names) (members (now (named .entry))) (numEnd (numSoFar (s .digits) (s .value)))) ⌝ }
+        ≡ heardTask (s .time) (s .low) (s .rises) (s .names) (members (now (named .entry)))
+        (numEnd (numSoFar (s .digits) (s .value)))) ⌝ }
 {
     let digits = s.digits;
     let value = s.value;

@@ -60,7 +60,8 @@ module _ (g : Setup) (now : ℕ) (d : Run) (h : Full d) where
       (λ i l. with-pick (runs i) (lowersTask (lowersIn g d) (getD (d .tasks) i noTask))))
 
   -- the run that a pass over each task leaves
-  pub worked-run : (runs : TaskSet) (b : Bool) (n : ℕ) → n ≡ jobsNow d → b ≡ (demoting (g .policy) && leb n (g .procs)) → (a : Run)
+  pub worked-run : (runs : TaskSet) (b : Bool) (n : ℕ) → n ≡ jobsNow d → b ≡ (demoting (g .policy) && leb n (g .procs))
+      → (a : Run)
       → a ≡ eachTask (λ i t. workedOn b (runs i) t) d → a ≡ worked runs (lowered g d)
   unfolding contentionFree
   worked-run runs b n e q a w =

@@ -136,5 +136,6 @@ module _ (lowers : Bool) (runs : TaskSet) (r : Run) where
       untouched false true t e = absurd (true≢false e)
       untouched false false t e = refl
 
-  pub running-all : (a : Run) (i : ℕ) → maxTasks ≤ i → Running lowers runs r (a .tasks) i → a ≡ eachTask (λ j t. workedOn lowers (runs j) t) r
+  pub running-all : (a : Run) (i : ℕ) → maxTasks ≤ i → Running lowers runs r (a .tasks) i → a
+      ≡ eachTask (λ j t. workedOn lowers (runs j) t) r
   running-all a i l w = ap runOf (filling-all maxTasks _ _ _ i l (w .tasks))
