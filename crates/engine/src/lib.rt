@@ -59,12 +59,8 @@ fn pass_releases(
 fn rests(trace: &[u32], next: usize, jobs: usize, clock: u32) -> bool
     ensures { λ r. ⌜ (r ≡ true → Rests (now (trace .entry)) next jobs clock) ⌝ }
 {
-    let n = cases::release_count(trace);
     if jobs == 0 {
-        if next < n {
-            return cases::time_of(trace, next) != clock;
-        }
-        return true;
+        return !traces::is_due(trace, next, clock);
     }
     false
 }

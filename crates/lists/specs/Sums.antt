@@ -7,6 +7,7 @@ use native.Mathlib.Nat.{add-zero, add-suc, suc-add, add-assoc}
 use native.Mathlib.Decide.{decLt}
 use native.Mathlib.Omega.{arith}
 use Rattle.rules.specs.Words.{sum, bit, countIn}
+use Rattle.lists.specs.Tests.{never-true}
 
 pub bit-le : (b : Bool) → bit b ≤ 1
 bit-le true = omega arith
@@ -96,6 +97,10 @@ count-none p a l h = count-cong p (λ t. false) a l h ∙ omega (arith, sum-cons
 
 pub count-there : (p : ℕ → Bool) (a l j : ℕ) → a ≤ j → j < a + l → p j ≡ true → 1 ≤ countIn p a l
 count-there p a l j x y e = omega (arith, count-lt (λ t. false) p a l (λ t u v q. absurd (false≢true q)) j x y refl e)
+
+-- where none of the first n passes, none of them does
+pub none-counted : (p : ℕ → Bool) (n i : ℕ) → countIn p 0 n ≡ 0 → i < n → p i ≡ false
+none-counted p n i e h = never-true (p i) (λ q. omega (arith, e, count-there p 0 n i (omega arith) (omega arith) q))
 
 pub count-some : (p : ℕ → Bool) (a l : ℕ) → 1 ≤ countIn p a l → (j : ℕ) × ((a ≤ j) × (j < a + l) × (p j ≡ true))
 unfolding sum

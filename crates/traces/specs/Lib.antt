@@ -1,3 +1,4 @@
 pub mod Traces
 pub mod Given
 pub mod Step
+pub mod NoneDue

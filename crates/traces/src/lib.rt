@@ -1,9 +1,9 @@
-// A trace gone through by time: the releases of one time, from the place that a walk over the slots has come to.
+// A trace gone through by time: the releases of one time, from the place that a walk over the slots has come to, and whether there are any.
 ghost use mathlib.Core.Path.{_≡_};
 ghost use Prim.Native.Nat.{suc, _≤_};
 ghost use Rattle.rules.specs.Case.{releaseCount};
 ghost use Rattle.bridge.specs.Turn.{Reached};
-ghost use Rattle.traces.specs.Traces.{Orderly, releases};
+ghost use Rattle.traces.specs.Traces.{Orderly, releases, due};
 use rules::MAX_TASKS;
 
 // The releases of one time: the first that comes later, with the tasks that are released.
@@ -31,4 +31,14 @@ pub fn take_releases(
         }
     }
     k
+}
+
+// Whether the next release is one of this time.
+pub fn is_due(trace: &[u32], next: usize, clock: u32) -> bool
+    ensures { λ r. ⌜ r ≡ due (now (trace .entry)) next clock ⌝ }
+{
+    if next < cases::release_count(trace) {
+        return cases::time_of(trace, next) == clock;
+    }
+    false
 }
