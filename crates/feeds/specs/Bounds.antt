@@ -77,7 +77,7 @@ small-task : (t low : ℕ) (rises names : Bool) (set : TaskSet) (n : Num) → t 
 small-task t low rises names set Num·.Bad l h = tt
 small-task t low rises names set (Num·.Value v) l h = (l, omega arith, (omega arith, omega arith))
 
-small-scan : (x : LineScan) (b : ℕ) → LineSmall x → LineSmall (scanByte x b)
+pub small-scan : (x : LineScan) (b : ℕ) → LineSmall x → LineSmall (scanByte x b)
 unfolding scanByte
 small-scan unread b h = small-word slotWord b (omega arith)
 small-scan wrong b h = tt

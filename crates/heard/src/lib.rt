@@ -14,6 +14,7 @@ ghost use Rattle.feeds.specs.NumScan.{fits, numSoFar, numEnd};
 ghost use Rattle.feeds.specs.LineScan.{isName, withName, scanByte, heardTime, heardTask, lineEnd, atStart};
 ghost use Rattle.feeds.specs.Bounds.{LineSmall};
 ghost use Rattle.heard.specs.Scans.{InNumber, startOf, scanAs, endedAs};
+ghost use Rattle.heard.specs.Lines.{inLine, digitFits, NumberSmall, Goes, HeardLine};
 use rules::MAX_TASKS;
 
 // How far a line is heard: its phase, and what that phase goes by: the bytes of the word that were read, or the digits of a number and
@@ -273,6 +274,9 @@ fn number_byte(s: Scan, b: u8, named: &mut [bool; MAX_TASKS]) -> Scan
 {
     let digits = s.digits;
     let value = s.value;
+    if b == b'\t' {
+        return after_field(s, named);
+    }
     if fits(digits, value, b) {
         let longer = with_digit(value, b);
         return Scan {
@@ -280,9 +284,6 @@ fn number_byte(s: Scan, b: u8, named: &mut [bool; MAX_TASKS]) -> Scan
             value: longer,
             ..s
         };
-    }
-    if b == b'\t' {
-        return after_field(s, named);
     }
     Scan { phase: WRONG, ..s }
 }
@@ -302,4 +303,90 @@ pub fn scan_byte(s: Scan, b: u8, named: &mut [bool; MAX_TASKS]) -> Scan
         return s;
     }
     number_byte(s, b, named)
+}
+
+// ---- a line within a piece of bytes
+
+// Whether a byte of the line stands at a place: the piece goes on there, and it is no newline.
+fn in_line(piece: &[u8], i: usize) -> bool
+    ensures { λ r. ⌜ r ≡ inLine (now (piece .entry)) i ⌝ }
+{
+    if i < piece.len() {
+        return piece[i] != b'\n';
+    }
+    false
+}
+
+// Whether a digit stands at a place that fits the number so far.
+fn digit_fits(piece: &[u8], i: usize, digits: u32, value: u32) -> bool
+    ensures { λ r. ⌜ r ≡ digitFits (now (piece .entry)) i digits value ⌝ }
+{
+    if i < piece.len() {
+        return fits(digits, value, piece[i]);
+    }
+    false
+}
+
+// The digits of a number from a place on, as far as they fit, in a loop that asks nothing else; where they end stands in `at`.
+fn scan_digits(s: Scan, piece: &[u8], from: usize, at: &mut usize) -> Scan
+    requires { ⌜ InNumber s ⌝ }
+    requires { ⌜ from ≤ length (now piece) ⌝ }
+    ensures { λ r. ⌜ ((xs : List Bool) → Goes (now (piece .entry)) from (scanAs s xs) (now (at .exit)) (scanAs r xs)) ⌝ }
+{
+    let mut digits = s.digits;
+    let mut value = s.value;
+    let mut i = from;
+    while digit_fits(piece, i, digits, value) {
+        value = with_digit(value, piece[i]);
+        digits += 1;
+        i += 1;
+    }
+    *at = i;
+    Scan {
+        digits: digits,
+        value: value,
+        ..s
+    }
+}
+
+// The same where a number is being read; any other state stays where it is.
+fn scan_number(s: Scan, piece: &[u8], from: usize, at: &mut usize) -> Scan
+    requires { ⌜ NumberSmall s ⌝ }
+    requires { ⌜ from ≤ length (now piece) ⌝ }
+    ensures { λ r. ⌜ ((xs : List Bool) → Goes (now (piece .entry)) from (scanAs s xs) (now (at .exit)) (scanAs r xs)) ⌝ }
+{
+    let phase = s.phase;
+    *at = from;
+    if phase == WORD {
+        return s;
+    }
+    if WRONG <= phase {
+        return s;
+    }
+    scan_digits(s, piece, from, at)
+}
+
+// The line from a place on, up to its newline or the end of the piece; where that is stands in `at`.
+pub fn scan_line(
+    s: Scan,
+    piece: &[u8],
+    from: usize,
+    at: &mut usize,
+    named: &mut [bool; MAX_TASKS],
+) -> Scan
+    requires { ⌜ LineSmall (scanAs s (now named)) ⌝ }
+    requires { ⌜ from ≤ length (now piece) ⌝ }
+    requires { ⌜ length (now named) ≡ maxTasks ⌝ }
+    ensures { λ r. ⌜ HeardLine (now (piece .entry)) from (now (at .exit)) (scanAs s (now (named .entry))) (scanAs r (now (named .exit)))
+        (now (named .exit)) ⌝ }
+{
+    let mut i = from;
+    let mut scan = s;
+    while in_line(piece, i) {
+        scan = scan_byte(scan, piece[i], named);
+        let k = i + 1;
+        scan = scan_number(scan, piece, k, &mut i);
+    }
+    *at = i;
+    scan
 }
