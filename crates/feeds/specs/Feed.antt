@@ -24,7 +24,7 @@ use Rattle.lists.specs.Lists.{picked}
 use Rattle.legal.specs.Firsts.{next-none, next-some}
 use Rattle.bridge.specs.Steps.{Full, opened-full, worked-same}
 use Rattle.feeds.specs.Alike.{within, within-same, keeps-same, followed-full}
-use Rattle.texts.specs.Fields.{past-none}
+use Rattle.texts.specs.Fields.{past-none, upTo-without}
 use Rattle.texts.specs.LinesOf.{line-cut, afterLine-less}
 use Rattle.feeds.specs.LineScan.{LineScan, unread, atStart, scanByte, scanAll, Heard, heardBad, heard, lineEnd, hears, begun}
 use Rattle.feeds.specs.LineScan.{begun-all}
@@ -100,21 +100,11 @@ unfolding has
 newline-head b s = picked (λ t. t ≡ false → (eqb b newlineByte ≡ false) × (has newlineByte s ≡ false)) (eqb b newlineByte) true
     (has newlineByte s) (λ p e. absurd (true≢false e)) (λ p e. (p, e))
 
-feed-within : (c : Case) (l : List ℕ) (x : LineScan) (n : ℕ) (r : Run) (f : Fault) → has newlineByte l ≡ false
+pub feed-within : (c : Case) (l : List ℕ) (x : LineScan) (n : ℕ) (r : Run) (f : Fault) → has newlineByte l ≡ false
     → feed c (feedOf x n r f) l ≡ feedOf (scanAll x l) n r f
 unfolding feed feedByte scanAll
 feed-within c [] x n r f h = refl
 feed-within c (b ∷ l) x n r f h = let w = newline-head b l h in rw (w .0) (feed-within c l (scanByte x b) n r f (w .1))
-
-line-no-newline : (s : List ℕ) → has newlineByte (upTo newlineByte s) ≡ false
-unfolding has upTo
-line-no-newline [] = refl
-line-no-newline (b ∷ s) = go (eqb b newlineByte) refl (line-no-newline s)
-  where
-    go : (e : Bool) → eqb b newlineByte ≡ e → has newlineByte (upTo newlineByte s) ≡ false
-        → has newlineByte (pick e [] (b ∷ upTo newlineByte s)) ≡ false
-    go true q h = unfold has in refl
-    go false q h = unfold has in rw (q, h)
 
 -- ---- what is heard is tested as what is said
 formed-heard : (n : ℕ) (l : LogLine) → formedHeard n (hears l) ≡ wellFormed n l
@@ -283,7 +273,7 @@ fed-lines c (suc k) (b ∷ s) ls h =
         ≡ linesFaultIn c (ls ++ (pick e (slotSays (lineOf (b ∷ s))) badLine ∷ logLinesIn k (afterLine (b ∷ s))))
     go true e ih =
         ap (λ (t : List ℕ). fedFault c (feed c (fedOf c ls) t)) (sym (line-cut (b ∷ s) e))
-        ∙ ap (fedFault c) (fed-line c ls (lineOf (b ∷ s)) (afterLine (b ∷ s)) (unfold lineOf in line-no-newline (b ∷ s)))
+        ∙ ap (fedFault c) (fed-line c ls (lineOf (b ∷ s)) (afterLine (b ∷ s)) (unfold lineOf in upTo-without newlineByte (b ∷ s)))
         ∙ ih
         ∙ ap (linesFaultIn c) (append-assoc ls (slotSays (lineOf (b ∷ s)) ∷ []) (logLinesIn k (afterLine (b ∷ s))))
     go false e ih =

@@ -2,7 +2,7 @@
 -- and what one slot and one line of the log make of it.
 use Prim.Native.Nat.{ℕ, suc, _≤_, _<_, _^_}
 use mathlib.Core.Path.{_≡_}
-use mathlib.Core.Bool.{Bool, _&&_}
+use mathlib.Core.Bool.{Bool}
 use mathlib.Core.List.{List}
 use lib.Dec.{eqb}
 use lib.ListN.{length}
@@ -10,32 +10,40 @@ use Rattle.rules.specs.declared.Fault.{Fault}
 use Rattle.rules.specs.declared.Run.{Run}
 use Rattle.rules.specs.Words.{pick}
 use Rattle.rules.specs.Limits.{maxTasks}
-use Rattle.rules.specs.Case.{Case}
-use Rattle.rules.specs.Slot.{opened, worked}
-use Rattle.rules.specs.Replay.{setupIn, releasedAt}
-use Rattle.rules.specs.Refusals.{noFault, faultOf}
-use Rattle.rules.specs.Log.{keepsRule}
+use Rattle.rules.specs.Case.{Case, caseOf, releaseCount}
+use Rattle.rules.specs.Slot.{Setup, jobsNow, opened, worked}
+use Rattle.rules.specs.Replay.{setupIn, releasedIn, releasedAt}
+use Rattle.rules.specs.Refusals.{noFault, faultOf, Accepted}
+use Rattle.bridge.specs.Steps.{Full}
 use Rattle.bridge.specs.Turn.{Reached}
-use Rattle.feeds.specs.LineScan.{lineEnd}
-use Rattle.feeds.specs.Feed.{Feed, formedHeard, heardFault, setHeard}
+use Rattle.counts.specs.Needs.{Counts}
+use Rattle.feeds.specs.LineScan.{LineScan, lineEnd}
+use Rattle.feeds.specs.Feed.{Feed, heardFault, setHeard}
 use Rattle.feeds.specs.Bounds.{FeedSmall}
-use Rattle.lists.specs.Lists.{members}
 use Rattle.slot.specs.Stepped.{settledRun}
+use Rattle.slot.specs.Calm.{Ahead}
 use Rattle.heard.specs.declared.Scan.{Scan}
 use Rattle.heard.specs.Scans.{scanAs}
 use Rattle.follow.specs.declared.Log.{Log}
+
+-- the state, from its parts
+abbrev pub logOf : Run → List Bool → Scan → ℕ → ℕ → ℕ → Bool → ℕ → Log
+logOf r xs scan lines next jobs calm number =
+    record { run = r; named = xs; scan = scan; lines = lines; next = next; jobs = jobs; calm = calm; number = number }
 
 -- a fault of the line with n lines before it, by its number
 abbrev pub faultAt : ℕ → ℕ → Fault
 faultAt number n = pick (eqb number 0) noFault (faultOf number (suc n))
 
--- nothing is at fault: line, count and, up to the end, the run and the releases are those of the fed state
+-- nothing is at fault: line, count and, up to the end, the run, the releases and what is known of the next slot are those of the fed state
 pub record Going (c : Case) (f : Feed) (d : Log) : Type 0 where
   pub long : length (d .named) ≡ maxTasks
   pub line : scanAs (d .scan) (d .named) ≡ f .line
   pub count : d .lines ≡ f .count
   pub run : d .lines ≤ c .end → d .run ≡ f .run
+  pub full : d .lines ≤ c .end → Full (d .run)
   pub reached : d .lines ≤ c .end → Reached (c .trace) (d .next) (d .lines)
+  pub ahead : d .lines ≤ c .end → Ahead (c .policy) (d .lines) (d .run) (d .jobs) (d .calm)
 
 pub record Follows (c : Case) (f : Feed) (d : Log) : Type 0 where
   pub small : FeedSmall f
@@ -48,20 +56,27 @@ pub record Followed (c : Case) (d : Log) : Type 0 where
   pub fed : Feed
   pub follows : Follows c fed d
 
--- ---- one slot: 18 where its set breaks the rule, and else the run that the work of the set leaves; where it breaks the rule, the run
--- after step 3
-abbrev pub keeps : Case → ℕ → Bool → List Bool → Run → Bool
-keeps c t names xs r = names && keepsRule (setupIn c) t (opened (setupIn c) t (releasedAt c t) r) (members xs)
+-- ---- one slot is opened
+-- what its code asks for: a time before the end of an accepted case, the free counts of its table, and the releases up to that time taken
+pub record Openable (procs policy : ℕ) (table counts trace : List ℕ) (t next : ℕ) : Type 0 where
+  pub end : ℕ
+  pub accepted : Accepted (caseOf procs policy table end trace)
+  pub before : t < end
+  pub counted : Counts procs table counts
+  pub reached : Reached trace next t
 
-pub record Slotted (c : Case) (t : ℕ) (names : Bool) (xs : List Bool) (r s : Run) (next number : ℕ) : Type 0 where
-  pub reached : Reached (c .trace) next (suc t)
-  pub verdict : number ≡ pick (keeps c t names xs r) 0 18
-  pub run : s ≡ pick (keeps c t names xs r) (worked (members xs) (opened (setupIn c) t (releasedAt c t) r))
-      (settledRun (setupIn c) t (releasedAt c t) r)
+-- steps 1 to 3 with what is released at its time: the run, the releases after it, the jobs
+pub record Opens (g : Setup) (trace : List ℕ) (t : ℕ) (r s : Run) (next jobs : ℕ) : Type 0 where
+  pub run : s ≡ settledRun g t (releasedIn trace (releaseCount trace) t) r
+  pub reached : Reached trace next (suc t)
+  pub counted : jobs ≡ jobsNow s
 
--- ---- one line with n before it: its fault, and where it has none and stands before the end, the run and the releases behind its slot
-pub record Closed (c : Case) (n : ℕ) (scan : Scan) (xs : List Bool) (r s : Run) (ys : List Bool) (next number : ℕ) : Type 0 where
+-- ---- one line with n before it: its fault, and where it has none and stands before the end, the run behind its slot, the releases, and
+-- what is known of the slot after it
+pub record Closed (c : Case) (n : ℕ) (x : LineScan) (r s : Run) (ys : List Bool) (next jobs : ℕ) (calm : Bool) (number : ℕ) : Type 0 where
   pub long : length ys ≡ maxTasks
-  pub fault : heardFault c n (opened (setupIn c) n (releasedAt c n) r) (lineEnd (scanAs scan xs)) ≡ faultAt number n
-  pub run : number ≡ 0 → n < c .end → s ≡ worked (setHeard (lineEnd (scanAs scan xs))) (opened (setupIn c) n (releasedAt c n) r)
+  pub fault : heardFault c n (opened (setupIn c) n (releasedAt c n) r) (lineEnd x) ≡ faultAt number n
+  pub run : number ≡ 0 → n < c .end → s ≡ worked (setHeard (lineEnd x)) (opened (setupIn c) n (releasedAt c n) r)
+  pub full : number ≡ 0 → n < c .end → Full s
   pub reached : number ≡ 0 → n < c .end → Reached (c .trace) next (suc n)
+  pub ahead : number ≡ 0 → n < c .end → Ahead (c .policy) (suc n) s jobs calm

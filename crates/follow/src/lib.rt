@@ -1,22 +1,23 @@
 // The check of a vendor's slot log: a state by value that takes the log in pieces of any length, and the call that takes it whole. The
 // state follows the log, not our own replay: each slot works the set that its line names.
 ghost use mathlib.Core.Path.{_≡_};
-ghost use mathlib.Core.Bool.{Bool, _&&_};
+ghost use mathlib.Core.Bool.{Bool, _&&_, _||_, not};
 ghost use mathlib.Core.List.{List, []};
-ghost use Prim.Native.Nat.{_+_, _≤_, _<_, _^_};
+ghost use Prim.Native.Nat.{ℕ, _+_, _≤_, _<_, _^_};
 ghost use lib.Dec.{eqb, ltb};
-ghost use lib.ListN.{length};
 ghost use Rattle.rules.specs.Words.{pick};
-ghost use Rattle.rules.specs.Limits.{maxTasks};
 ghost use Rattle.rules.specs.Case.{Case, caseOf};
+ghost use Rattle.rules.specs.Slot.{setupOf, jobsNow};
 ghost use Rattle.rules.specs.Refusals.{Accepted};
 ghost use Rattle.rules.specs.Answers.{loggedAs, settled};
 ghost use Rattle.rules.specs.Calls.{LogPromise};
-ghost use Rattle.bridge.specs.Turn.{Reached};
+ghost use Rattle.rules.specs.Log.{keepsRule};
+ghost use Rattle.lists.specs.Lists.{members};
 ghost use Rattle.counts.specs.Needs.{Counts};
+ghost use Rattle.traces.specs.Traces.{due};
 ghost use Rattle.feeds.specs.Feed.{Feed, opening, formedHeard, namesHeard, feed, fedFault};
 ghost use Rattle.heard.specs.Scans.{startOf, endedAs};
-ghost use Rattle.follow.specs.Follows.{Follows, Followed, Slotted, Closed};
+ghost use Rattle.follow.specs.Follows.{logOf, Follows, Followed, Openable, Opens};
 use heard::Ended;
 use heard::Scan;
 use rules::Logged;
@@ -24,49 +25,55 @@ use rules::MAX_TASKS;
 use rules::Run;
 
 // The check so far: the run, the tasks that the unfinished line names, how far that line is heard, how many lines were before it, the
-// first release that is not taken, and the number of the first fault, 0 where there is none. Once at fault it stays as it is: of a slot
-// that breaks the rule the run is that after step 3, for the words that say why.
+// first release that is not taken, how many jobs the run has and whether steps 1 and 3 of the next slot surely change none of them, and the
+// number of the first fault, 0 where there is none. Once at fault it stays as it is: of a slot that breaks the rule the run is that after
+// step 3, for the words that say why.
 pub struct Log {
     pub run: Run,
     pub named: [bool; MAX_TASKS],
     pub scan: Scan,
     pub lines: u32,
     pub next: usize,
+    pub jobs: usize,
+    pub calm: bool,
     pub number: u32,
 }
 
 // ---- one slot
 
-// The slot at a time, of which a line names the set: its steps 1 to 3, the rule, and the work of the set where it keeps the rule.
-fn follow_slot(
+// Whether a slot has to be opened: in most slots nothing is released and steps 1 and 3 change no job.
+fn must_open(trace: &[u32], next: usize, clock: u32, calm: bool) -> bool
+    ensures { λ r. ⌜ r ≡ (not calm || due (now (trace .entry)) next clock) ⌝ }
+{
+    if calm {
+        return traces::is_due(trace, next, clock);
+    }
+    true
+}
+
+// Steps 1 to 3 of the slot at a time, with the releases of that time: the run, the first release after them, and how many jobs there are.
+fn open_at(
     run: Run,
     procs: u32,
     policy: u32,
     table: &[u32],
     counts: &[u32; MAX_TASKS],
-    end: u32,
     trace: &[u32],
     clock: u32,
-    names: bool,
-    named: &[bool; MAX_TASKS],
     next: &mut usize,
-    number: &mut u32,
+    jobs: &mut usize,
 ) -> Run
-    requires { ⌜ Accepted (caseOf procs policy (now table) end (now trace)) ⌝ }
-    requires { ⌜ Counts procs (now table) (now counts) ⌝ }
-    requires { ⌜ clock < end ⌝ }
-    requires { ⌜ Reached (now trace) (now next) clock ⌝ }
-    ensures { λ s. ⌜ Slotted (caseOf procs policy (now (table .entry)) end (now (trace .entry))) clock names (now (named .entry)) run s
-        (now (next .exit)) (now (number .exit)) ⌝ }
+    requires { ⌜ Openable procs policy (now table) (now counts) (now trace) clock (now next) ⌝ }
+    ensures { λ s. ⌜ Opens (setupOf procs policy (now (table .entry))) (now (trace .entry)) clock run s (now (next .exit))
+        (now (jobs .exit)) ⌝ }
 {
     let mut released = [false; MAX_TASKS];
     let mut missed = [false; MAX_TASKS];
     let mut demoted = [false; MAX_TASKS];
     let mut present = [false; MAX_TASKS];
-    let mut jobs: usize = 0;
     let from = *next;
     *next = traces::take_releases(trace, from, clock, &mut released);
-    let s = slot::settle(
+    slot::settle(
         run,
         procs,
         policy,
@@ -74,18 +81,51 @@ fn follow_slot(
         counts,
         &released,
         clock,
-        &mut jobs,
+        jobs,
         &mut missed,
         &mut demoted,
         &mut present,
-    );
-    let keeps = rule::keeps(s, procs, policy, clock, jobs, &present, named);
-    if names & keeps {
-        *number = 0;
-        return slot::work_run(s, procs, policy, jobs, named);
+    )
+}
+
+// The number of a slot by whether it stands.
+fn told(stands: bool) -> u32
+    ensures { λ r. ⌜ r ≡ pick stands 0 18 ⌝ }
+{
+    if stands { 0 } else { 18 }
+}
+
+// What is at fault in a slot after step 3, whose line names this set: 18, or nothing. Without any job only the set is looked at.
+fn slot_number(
+    run: Run,
+    procs: u32,
+    policy: u32,
+    clock: u32,
+    ended: Ended,
+    jobs: usize,
+    named: &[bool; MAX_TASKS],
+) -> u32
+    requires { ⌜ jobs ≡ jobsNow run ⌝ }
+    ensures { λ r. ⌜ ((table : List ℕ) (xs : List Bool) → r ≡ pick (namesHeard (endedAs ended xs)
+        && keepsRule (setupOf procs policy table) clock run (members (now (named .entry)))) 0 18) ⌝ }
+{
+    let names = names_tasks(ended);
+    if jobs == 0 {
+        let nobody = rule::is_nobody(named);
+        return told(names & nobody);
     }
-    *number = 18;
-    s
+    let keeps = rule::keeps(run, procs, policy, clock, jobs, named);
+    told(names & keeps)
+}
+
+// Whether the set of a slot works: where the slot stands. Where there is no job there is nothing to do.
+fn is_worked(number: u32, jobs: usize) -> bool
+    ensures { λ r. ⌜ r ≡ (eqb number 0 && not (eqb jobs 0)) ⌝ }
+{
+    if number == 0 {
+        return jobs != 0;
+    }
+    false
 }
 
 // ---- one line
@@ -118,52 +158,18 @@ pub fn names_tasks(ended: Ended) -> bool
     }
 }
 
-// The end of a line with so many before it: 17, or in a slot before the end 18, or nothing at fault.
-fn close_line(
-    run: Run,
-    procs: u32,
-    policy: u32,
-    table: &[u32],
-    counts: &[u32; MAX_TASKS],
-    end: u32,
-    trace: &[u32],
-    lines: u32,
-    scan: Scan,
-    named: &mut [bool; MAX_TASKS],
-    next: &mut usize,
-    number: &mut u32,
-) -> Run
-    requires { ⌜ Accepted (caseOf procs policy (now table) end (now trace)) ⌝ }
-    requires { ⌜ Counts procs (now table) (now counts) ⌝ }
-    requires { ⌜ (lines < end → Reached (now trace) (now next) lines) ⌝ }
-    requires { ⌜ length (now named) ≡ maxTasks ⌝ }
-    ensures { λ s. ⌜ Closed (caseOf procs policy (now (table .entry)) end (now (trace .entry))) lines scan (now (named .entry)) run s
-        (now (named .exit)) (now (next .exit)) (now (number .exit)) ⌝ }
+// Whether a line that ends with so many before it has a slot to be followed: it is well formed and stands before the end. What is wrong
+// with its form goes into `number`: 17, or nothing.
+fn has_slot(ended: Ended, lines: u32, end: u32, number: &mut u32) -> bool
+    ensures { λ r. ⌜ ((xs : List Bool) → now (number .exit) ≡ pick (formedHeard lines (endedAs ended xs)) 0 17)
+        × (r ≡ (eqb (now (number .exit)) 0 && ltb lines end)) ⌝ }
 {
-    let ended = heard::line_end(scan, named);
-    if !is_formed(ended, lines) {
-        *number = 17;
-        return run;
-    }
-    if end <= lines {
+    if is_formed(ended, lines) {
         *number = 0;
-        return run;
+        return lines < end;
     }
-    let names = names_tasks(ended);
-    follow_slot(
-        run,
-        procs,
-        policy,
-        table,
-        counts,
-        end,
-        trace,
-        lines,
-        names,
-        named,
-        next,
-        number,
-    )
+    *number = 17;
+    false
 }
 
 // ---- the log in pieces
@@ -180,6 +186,8 @@ pub fn open_log() -> Log
         scan: scan,
         lines: 0,
         next: 0,
+        jobs: 0,
+        calm: true,
         number: 0,
     }
 }
@@ -212,7 +220,33 @@ fn goes_on(i: usize, length: usize, number: u32) -> bool
     false
 }
 
-// A piece of the log. Its work is in the bytes and, once a line, in the 32 records.
+// The state, from its parts.
+fn log_of(
+    run: Run,
+    named: [bool; MAX_TASKS],
+    scan: Scan,
+    lines: u32,
+    next: usize,
+    jobs: usize,
+    calm: bool,
+    number: u32,
+) -> Log
+    ensures { λ r. ⌜ r ≡ logOf run named scan lines next jobs calm number ⌝ }
+{
+    Log {
+        run,
+        named,
+        scan,
+        lines,
+        next,
+        jobs,
+        calm,
+        number,
+    }
+}
+
+// A piece of the log, line by line: up to the newline by the bytes alone, then the slot. The run is changed here, in the loop that holds
+// it, and only where a slot changes it: a function that took it and gave it back would copy it in every slot.
 pub fn feed(
     log: Log,
     procs: u32,
@@ -235,40 +269,40 @@ pub fn feed(
     let mut scan = log.scan;
     let mut lines = log.lines;
     let mut next = log.next;
+    let mut jobs = log.jobs;
+    let mut calm = log.calm;
     let mut number = log.number;
     let mut i: usize = 0;
     while goes_on(i, piece.len(), number) {
-        let b = piece[i];
-        if b == b'\n' {
-            run = close_line(
-                run,
-                procs,
-                policy,
-                table,
-                &counts,
-                end,
-                trace,
-                lines,
-                scan,
-                &mut named,
-                &mut next,
-                &mut number,
-            );
-            scan = next_scan(scan, number);
-            lines = next_line(lines, number);
-        } else {
-            scan = heard::scan_byte(scan, b, &mut named);
+        scan = heard::scan_line(scan, piece, i, &mut i, &mut named);
+        if i == piece.len() {
+            return log_of(run, named, scan, lines, next, jobs, calm, number);
         }
+        let ended = heard::line_end(scan, &mut named);
+        if has_slot(ended, lines, end, &mut number) {
+            if must_open(trace, next, lines, calm) {
+                run = open_at(
+                    run,
+                    procs,
+                    policy,
+                    table,
+                    &counts,
+                    trace,
+                    lines,
+                    &mut next,
+                    &mut jobs,
+                );
+            }
+            number = slot_number(run, procs, policy, lines, ended, jobs, &named);
+            if is_worked(number, jobs) {
+                run = slot::work_run(run, procs, policy, lines, &named, &mut jobs, &mut calm);
+            }
+        }
+        scan = next_scan(scan, number);
+        lines = next_line(lines, number);
         i += 1;
     }
-    Log {
-        run,
-        named,
-        scan,
-        lines,
-        next,
-        number,
-    }
+    log_of(run, named, scan, lines, next, jobs, calm, number)
 }
 
 // The log is over: what is at fault in it, if anything is.

@@ -6,7 +6,7 @@ ghost use lib.Dec.{leb};
 ghost use Rattle.rules.specs.Words.{bit};
 ghost use Rattle.rules.specs.Limits.{maxTasks};
 ghost use Rattle.rules.specs.Slot.{isPresent, isDemoted, leftOf, freeOf, dueOf, isMissed, judgedTask, demotes, isDemotedNow, loweredJob};
-ghost use Rattle.rules.specs.Slot.{isLast, workedJob};
+ghost use Rattle.rules.specs.Slot.{loweredTask, isLast, workedJob, workedTask};
 ghost use Rattle.rules.specs.Policies.{demoting};
 ghost use Rattle.jobs.specs.Tasks.{isNormal, Early, Startable, startedTask, readiedTask, demotedIf, loweredIf, workedIf, workedOn};
 use rules::Job;
@@ -280,6 +280,19 @@ fn lowered_if(j: Job, lowers: bool) -> Job
     if lowers { lowered_job(j) } else { j }
 }
 
+// Step 4 for the task.
+pub fn lowered_task(t: Task) -> Task
+    ensures { λ r. ⌜ r ≡ loweredTask t ⌝ }
+{
+    let j = t.job;
+    let k = lowered_job(j);
+    Task {
+        number: t.number,
+        last: t.last,
+        job: k,
+    }
+}
+
 // ---- step 6: a job that ran has one unit less; one with nothing remaining is finished
 
 fn worked_job(j: Job) -> Job
@@ -306,6 +319,19 @@ fn worked_if(j: Job, runs: bool) -> Job
     ensures { λ r. ⌜ r ≡ workedIf runs j ⌝ }
 {
     if runs { worked_job(j) } else { j }
+}
+
+// Step 6 for a task that runs.
+pub fn run_task(t: Task) -> Task
+    ensures { λ r. ⌜ r ≡ workedTask t ⌝ }
+{
+    let j = t.job;
+    let k = worked_job(j);
+    Task {
+        number: t.number,
+        last: t.last,
+        job: k,
+    }
 }
 
 // Steps 4 and 6 for one task.

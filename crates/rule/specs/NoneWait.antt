@@ -1,28 +1,27 @@
--- The rule of a slot where no job waits: the set is that of the tasks that have a job. For whoever checks a log and has that set at hand.
-use mathlib.Core.Path.{_≡_, refl, sym, ap, _∙_}
+-- The rule of a slot where no job waits: the set is that of the tasks that have a job, so where there is no job that of nobody. For
+-- whoever checks a log: no order need be looked at.
+use mathlib.Core.Path.{_≡_, refl, sym, _∙_}
 use mathlib.Core.Bool.{Bool, true, false, _&&_, _||_, not, Bool·beq, false≢true}
-use mathlib.Core.List.{List}
 use Prim.Native.Nat.{ℕ, min, _≤_, _<_}
 use native.Mathlib.Omega.{arith}
 use lib.Dec.{eqb}
 use borrow.Author.Tests.{eq-eqb, eqb-true}
 use Rattle.rules.specs.declared.Run.{Run}
-use Rattle.rules.specs.Words.{countIn, holdsBelow, tab}
+use Rattle.rules.specs.Words.{countIn, holdsBelow}
 use Rattle.rules.specs.Limits.{maxTasks}
 use Rattle.rules.specs.Slot.{Setup, TaskSet, present, jobsNow}
-use Rattle.rules.specs.Log.{wronged, keepsRule}
-use Rattle.lists.specs.Lists.{tab-at, members}
-use Rattle.lists.specs.Sums.{count-cong, count-lt}
+use Rattle.rules.specs.Log.{keepsRule}
+use Rattle.lists.specs.Sums.{count-cong, count-lt, none-counted}
 use Rattle.lists.specs.Tests.{and-left, and-right, and-both, never-true}
-use Rattle.lists.specs.Holds.{holds-says, holds-of}
+use Rattle.lists.specs.Holds.{holds-says, holds-of, holds-same}
 
 -- whether the task at i is in both sets or in neither
 abbrev pub sameAt : TaskSet → TaskSet → ℕ → Bool
 sameAt a b i = Bool·beq (a i) (b i)
 
--- the tasks that have a job, as an array
-abbrev pub presentIn : Run → List Bool
-presentIn r = tab (present r) 0 maxTasks
+-- whether the task at i is not in the set
+abbrev pub absent : TaskSet → ℕ → Bool
+absent runs i = not (runs i)
 
 beq-same : (a b : Bool) → Bool·beq a b ≡ true → a ≡ b
 beq-same true true e = refl
@@ -101,17 +100,25 @@ module _ (g : Setup) (now : ℕ) (r : Run) (runs : TaskSet) (few : jobsNow r ≤
       go false p true q = absurd (false≢true (sym p ∙ keeps-among g now r runs e i l q))
 
   -- so the rule is told by comparing the two
-  pub none-waits : (xs : List Bool) → xs ≡ presentIn r → holdsBelow (sameAt (members xs) runs) maxTasks ≡ keepsRule g now r runs
-  none-waits xs e = go (holdsBelow (sameAt (members xs) runs) maxTasks) refl
+  pub none-waits : holdsBelow (sameAt (present r) runs) maxTasks ≡ keepsRule g now r runs
+  none-waits = go (holdsBelow (sameAt (present r) runs) maxTasks) refl
     where
-      there : (i : ℕ) → i < maxTasks → members xs i ≡ present r i
-      there i l = rw e (tab-at (present r) maxTasks i false l)
-
-      go : (b : Bool) → holdsBelow (sameAt (members xs) runs) maxTasks ≡ b → b ≡ keepsRule g now r runs
+      go : (b : Bool) → holdsBelow (sameAt (present r) runs) maxTasks ≡ b → b ≡ keepsRule g now r runs
       go true q =
-          sym (all-run (λ i l. sym (there i l)
-          ∙ beq-same (members xs i) (runs i) (holds-says (sameAt (members xs) runs) maxTasks q i l)))
+          sym (all-run (λ i l. beq-same (present r i) (runs i) (holds-says (sameAt (present r) runs) maxTasks q i l)))
       go false q =
           sym (never-true (keepsRule g now r runs)
-          (λ k. false≢true (sym q ∙ holds-of (sameAt (members xs) runs) maxTasks
-          (λ i l. same-beq (members xs i) (runs i) (there i l ∙ only-all k i l)))))
+          (λ k. false≢true (sym q ∙ holds-of (sameAt (present r) runs) maxTasks
+          (λ i l. same-beq (present r i) (runs i) (only-all k i l)))))
+
+-- where no task has a job just the set of nobody keeps the rule
+pub nobody-keeps : (g : Setup) (now : ℕ) (r : Run) (runs : TaskSet) → jobsNow r ≡ 0
+    → holdsBelow (absent runs) maxTasks ≡ keepsRule g now r runs
+unfolding jobsNow
+nobody-keeps g now r runs e =
+    holds-same (absent runs) (sameAt (present r) runs) maxTasks (λ i l. left-out (runs i) (none-counted (present r) maxTasks i e l)) ∙
+    none-waits g now r runs (omega (arith, e))
+  where
+    left-out : {a : Bool} (b : Bool) → a ≡ false → not b ≡ Bool·beq a b
+    left-out true e = rw e
+    left-out false e = rw e

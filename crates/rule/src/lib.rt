@@ -6,10 +6,10 @@ ghost use mathlib.Core.List.{List};
 ghost use Prim.Native.Nat.{ℕ, min, max};
 ghost use Rattle.rules.specs.Words.{holdsBelow};
 ghost use Rattle.rules.specs.Limits.{maxTasks};
-ghost use Rattle.rules.specs.Slot.{setupOf, jobsNow};
+ghost use Rattle.rules.specs.Slot.{setupOf, present, jobsNow};
 ghost use Rattle.rules.specs.Log.{keepsRule};
 ghost use Rattle.lists.specs.Lists.{members};
-ghost use Rattle.rule.specs.NoneWait.{sameAt, presentIn};
+ghost use Rattle.rule.specs.NoneWait.{sameAt, absent};
 use rules::MAX_TASKS;
 use rules::Run;
 
@@ -25,37 +25,51 @@ fn greater(a: u64, b: u64) -> u64
     if a < b { b } else { a }
 }
 
-// Whether two sets have the same tasks. The loop has no early exit: each pair is compared alike, so that many can be compared at once.
-fn same_sets(a: &[bool; MAX_TASKS], b: &[bool; MAX_TASKS]) -> bool
-    ensures { λ r. ⌜ r ≡ holdsBelow (sameAt (members (now (a .entry))) (members (now (b .entry)))) maxTasks ⌝ }
+// Whether nobody is named, which is all that the rule asks where no task has a job. The loop has no early exit: all tasks are looked at
+// alike, so that many can be at once.
+pub fn is_nobody(named: &[bool; MAX_TASKS]) -> bool
+    ensures { λ r. ⌜ r ≡ holdsBelow (absent (members (now (named .entry)))) maxTasks ⌝ }
+{
+    let mut none = true;
+    let mut i: usize = 0;
+    while i < MAX_TASKS {
+        none = none & !named[i];
+        i += 1;
+    }
+    none
+}
+
+// Whether just the tasks that have a job are named. No early exit here either: each task is compared alike, so that many can be at once.
+fn all_run(r: Run, named: &[bool; MAX_TASKS]) -> bool
+    ensures { λ a. ⌜ a ≡ holdsBelow (sameAt (present r) (members (now (named .entry)))) maxTasks ⌝ }
 {
     let mut same = true;
     let mut i: usize = 0;
     while i < MAX_TASKS {
-        same = same & (a[i] == b[i]);
+        let t = r.tasks[i];
+        let j = t.job;
+        same = same & (jobs::has_job(j) == named[i]);
         i += 1;
     }
     same
 }
 
-// The table has no say in it. Where no job waits the set must be that of the tasks present, and nothing else is looked at. A turn is below
-// 3 * 2^32, so the largest number stands for no job that waits and 0 for none that runs: no turn is above the one or below the other. Jobs
-// with the same turn may run in either's place.
+// The table has no say in it. Where no job waits the set must be that of the tasks that have a job, and nothing else is looked at. A turn
+// is below 3 * 2^32, so the largest number stands for no job that waits and 0 for none that runs: no turn is above the one or below the
+// other. Jobs with the same turn may run in either's place.
 pub fn keeps(
     r: Run,
     procs: u32,
     policy: u32,
     clock: u32,
     jobs: usize,
-    present: &[bool; MAX_TASKS],
     named: &[bool; MAX_TASKS],
 ) -> bool
     requires { ⌜ jobs ≡ jobsNow r ⌝ }
-    requires { ⌜ now present ≡ presentIn r ⌝ }
     ensures { λ k. ⌜ ((table : List ℕ) → k ≡ keepsRule (setupOf procs policy table) clock r (members (now (named .entry)))) ⌝ }
 {
     if jobs <= procs as usize {
-        return same_sets(present, named);
+        return all_run(r, named);
     }
     let mut count: u64 = 0;
     let mut all_there = true;

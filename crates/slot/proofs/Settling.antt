@@ -78,20 +78,20 @@ demoted-same : (cf : Bool) (t : Task) → (cf && isDemotedNow (t .job)) ≡ fals
 demoted-same cf t e = rw e
 
 -- what has been filled in is there
-filling-past : (n : ℕ) (ys xs s : List Task) (i : ℕ) (d : Task) → i < n → Filling n ys xs s (i + 1) → getD s i d ≡ getD ys i d
+pub filling-past : (n : ℕ) (ys xs s : List Task) (i : ℕ) (d : Task) → i < n → Filling n ys xs s (i + 1) → getD s i d ≡ getD ys i d
 filling-past n ys xs s i d l w =
     ap (λ (z : List Task). getD z i d) (w .so-far) ∙
     List·getD-append (take (i + 1) ys) (drop (i + 1) xs) d i (omega (arith, length-take-le (i + 1) ys (omega (arith, w .long′)))) ∙
     getD-take (i + 1) ys i d (omega arith)
 
 -- a run that is being filled has its 32 tasks
-long : {ys xs ts : List Task} {i : ℕ} → Filling maxTasks ys xs ts i → length ts ≡ maxTasks
+pub long : {ys xs ts : List Task} {i : ℕ} → Filling maxTasks ys xs ts i → length ts ≡ maxTasks
 long {ys} {xs} {ts} {i} w =
     ap length (w .so-far) ∙ length-append (take i ys) (drop i xs)
     ∙ omega (arith, w .within, w .long, length-take-le i ys (omega (arith, w .within, w .long′)), length-drop i xs)
 
 -- one task more is counted
-count-more : (p : ℕ → Bool) (i n m : ℕ) (b : Bool) → n ≡ countIn p 0 i → m ≡ n + bit b → p i ≡ b
+pub count-more : (p : ℕ → Bool) (i n m : ℕ) (b : Bool) → n ≡ countIn p 0 i → m ≡ n + bit b → p i ≡ b
     → m ≡ countIn p 0 (i + 1)
 unfolding sum
 count-more p i n m b e h q = rw (add-one i, zero-add i, q) (omega arith)
@@ -127,7 +127,7 @@ settle-none g now s r h =
       counts = refl;
     }
 
-bit-few : (n m i : ℕ) (b : Bool) → n ≤ i → m ≡ n + bit b → m ≤ i + 1
+pub bit-few : (n m i : ℕ) (b : Bool) → n ≤ i → m ≡ n + bit b → m ≤ i + 1
 bit-few n m i true l e = omega arith
 bit-few n m i false l e = omega arith
 

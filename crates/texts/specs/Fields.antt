@@ -6,7 +6,7 @@ use mathlib.Core.List.{List, [], _∷_, _++_, append-assoc}
 use Prim.Native.Nat.{ℕ, suc, _+_, _≤_, _<_}
 use native.Mathlib.Omega.{arith}
 use lib.Dec.{eqb}
-use lib.ListN.{length, length-append}
+use lib.ListN.{length, length-append, getD, take}
 use borrow.Author.Tests.{eq-eqb, ne-eqb, eqb-true}
 use Rattle.rules.specs.Words.{pick}
 use Rattle.rules.specs.Text.{newlineByte, tabByte, same, upTo, past, has, allDigits, digitsOf}
@@ -61,6 +61,45 @@ pub has-seam : (x : ℕ) (s t : List ℕ) → has x (s ++ (x ∷ t)) ≡ true
 unfolding has
 has-seam x [] t = rw (eq-eqb x x refl)
 has-seam x (b ∷ s) t = picked (λ z. z ≡ true) (eqb b x) true (has x (s ++ (x ∷ t))) (λ e. refl) (λ e. has-seam x s t)
+
+-- ---- what stands before the first x: it has none, it is the text's own beginning, and where the text goes on x follows
+pub upTo-without : (x : ℕ) (s : List ℕ) → has x (upTo x s) ≡ false
+unfolding has upTo
+upTo-without x [] = refl
+upTo-without x (b ∷ s) = go (eqb b x) refl (upTo-without x s)
+  where
+    go : (e : Bool) → eqb b x ≡ e → has x (upTo x s) ≡ false → has x (pick e [] (b ∷ upTo x s)) ≡ false
+    go true q h = unfold has in refl
+    go false q h = unfold has in rw (q, h)
+
+pub upTo-take : (x : ℕ) (s : List ℕ) → take (length (upTo x s)) s ≡ upTo x s
+unfolding upTo
+upTo-take x [] = refl
+upTo-take x (b ∷ s) = go (eqb b x) (upTo-take x s)
+  where
+    go : (e : Bool) → take (length (upTo x s)) s ≡ upTo x s → take (length (pick e [] (b ∷ upTo x s))) (b ∷ s)
+        ≡ pick e [] (b ∷ upTo x s)
+    go true h = refl
+    go false h = ap (λ (r : List ℕ). b ∷ r) h
+
+pub upTo-short : (x : ℕ) (s : List ℕ) → length (upTo x s) ≤ length s
+unfolding upTo
+upTo-short x [] = omega arith
+upTo-short x (b ∷ s) = go (eqb b x) (upTo-short x s)
+  where
+    go : (e : Bool) → length (upTo x s) ≤ length s → length (pick e [] (b ∷ upTo x s)) ≤ suc (length s)
+    go true h = omega arith
+    go false h = omega arith
+
+pub upTo-stop : (x : ℕ) (s : List ℕ) (d : ℕ) → length (upTo x s) < length s → getD s (length (upTo x s)) d ≡ x
+unfolding upTo
+upTo-stop x [] d l = absurd (omega arith)
+upTo-stop x (b ∷ s) d l = go (eqb b x) refl (upTo-stop x s d) l
+  where
+    go : (e : Bool) → eqb b x ≡ e → (length (upTo x s) < length s → getD s (length (upTo x s)) d ≡ x)
+        → length (pick e [] (b ∷ upTo x s)) < suc (length s) → getD (b ∷ s) (length (pick e [] (b ∷ upTo x s))) d ≡ x
+    go true q h l = eqb-true b x q
+    go false q h l = h (omega arith)
 
 -- ---- a text with x is cut at the first of it
 pub cut-at : (x : ℕ) (s : List ℕ) → has x s ≡ true → upTo x s ++ (x ∷ past x s) ≡ s

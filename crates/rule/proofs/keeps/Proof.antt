@@ -14,20 +14,19 @@ use Rattle.rule.proofs.keeps.Statement.{statement}
 use Rattle.rule.proofs.keeps.Tie as tie
 
 abbrev Inv-loop : tie.InvT-loop
-Inv-loop procs policy clock jobs present named r count₀ all-there₀ waiting₀ running₀ i₀ count all-there waiting running i =
+Inv-loop procs policy clock jobs named r count₀ all-there₀ waiting₀ running₀ i₀ count all-there waiting running i =
     Passing policy clock r (members named) i count all-there waiting running
 
 abbrev μ-loop : tie.MeasureT-loop
-μ-loop procs policy clock jobs present named r count₀ all-there₀ waiting₀ running₀ i₀ count all-there waiting running i =
+μ-loop procs policy clock jobs named r count₀ all-there₀ waiting₀ running₀ i₀ count all-there waiting running i =
     maxTasks - i
 
-same-sets-requires : tie.Need-same-sets-requires Inv-loop μ-loop
-same-sets-requires c κs = search needs
+all-run-requires : tie.Need-all-run-requires Inv-loop μ-loop
+all-run-requires c κs = search needs
 
 returns : tie.Need-returns Inv-loop μ-loop
 returns c = λ table.
-    let q = c .before .before .pre in
-    c .same-sets .ensures ∙ none-waits (setupOf _ _ table) _ _ _ (omega (arith, q .0, c .before .if1 .taken)) _ (q .1)
+    c .all-run .ensures ∙ none-waits (setupOf _ _ table) _ _ _ (omega (arith, c .before .before .pre, c .before .if1 .taken))
 
 loop-holds : tie.Need-loop-holds Inv-loop μ-loop
 loop-holds c = passing-none _ _ _ _
@@ -93,7 +92,7 @@ returns-2 : tie.Need-returns-2 Inv-loop μ-loop
 returns-2 c = λ table.
     let l = c .before .before .loop-test .left in
     let v = c .before .before .before .loop .inv in
-    let q = c .before .before .before .before .before .pre .0 in
+    let q = c .before .before .before .before .before .pre in
     wrong-number (setupOf _ _ table) _ _ _ _ _ _ _ _ _ l v q
     (λ e. omega (arith, e, c .if5 .taken, c .before .lesser2 .ensures))
 
@@ -101,14 +100,14 @@ returns-3 : tie.Need-returns-3 Inv-loop μ-loop
 returns-3 c = λ table.
     let l = c .before .before .before .loop-test .left in
     let v = c .before .before .before .before .loop .inv in
-    let q = c .before .before .before .before .before .before .pre .0 in
+    let q = c .before .before .before .before .before .before .pre in
     wrong-order (setupOf _ _ table) _ _ _ _ _ _ _ _ _ l v q (omega (arith, c .if6 .taken))
 
 returns-4 : tie.Need-returns-4 Inv-loop μ-loop
 returns-4 c = λ table.
     let l = c .before .before .before .loop-test .left in
     let v = c .before .before .before .before .loop .inv in
-    let q = c .before .before .before .before .before .before .pre .0 in
+    let q = c .before .before .before .before .before .before .pre in
     right-order (setupOf _ _ table) _ _ _ _ _ _ _ _ _ l v q
     (omega (arith, c .before .if5 .left, c .before .before .lesser2 .ensures)) (omega (arith, c .if6 .left))
 
@@ -118,7 +117,7 @@ keeps-spec =
     (tie.spec
     Inv-loop
     μ-loop
-    same-sets-requires
+    all-run-requires
     returns
     loop-holds
     mul-t
