@@ -17,15 +17,15 @@ use Rattle.rules.specs.Replay.{setupIn, releasedAt, fresh}
 use Rattle.rules.specs.Refusals.{noFault, faultOf, unless, orNext, first, firstOf, caseFault}
 use Rattle.rules.specs.Answers.{Answer, settled}
 use Rattle.rules.specs.Writer.{joinedText}
-use Rattle.rules.specs.Text.{newlineByte, upTo, has, lineOf, afterLine}
-use Rattle.rules.specs.Log.{LogLine, badLine, slotLine, tasksOf, slotSays, logLinesIn, logLines, rising, wellFormed, keepsRule, setNamed}
+use Rattle.rules.specs.Text.{newlineByte, upTo, has, lineOf, afterLine, linesBy}
+use Rattle.rules.specs.Log.{LogLine, badLine, slotLine, tasksOf, slotSays, logLines, rising, wellFormed, keepsRule, setNamed}
 use Rattle.rules.specs.Log.{nameTasks, slotStands, followed, openedBy, lineAt, setsOf, lineFault, linesFaultIn, logFault, logAnswer}
 use Rattle.lists.specs.Lists.{picked}
 use Rattle.legal.specs.Firsts.{next-none, next-some}
 use Rattle.bridge.specs.Steps.{Full, opened-full, worked-same}
 use Rattle.feeds.specs.Alike.{within, within-same, keeps-same, followed-full}
-use Rattle.texts.specs.Fields.{past-none, upTo-without}
-use Rattle.texts.specs.LinesOf.{line-cut, afterLine-less}
+use Rattle.texts.specs.Fields.{upTo-without}
+use Rattle.texts.specs.LinesOf.{line-cut, afterLine-less, by-ended, by-unended}
 use Rattle.feeds.specs.LineScan.{LineScan, unread, atStart, scanByte, scanAll, Heard, heardBad, heard, lineEnd, hears, begun}
 use Rattle.feeds.specs.LineScan.{begun-all}
 use Rattle.feeds.specs.LineHeard.{line-heard}
@@ -245,20 +245,10 @@ fed-unended c ls b s e =
     started : atStart (scanAll unread (b ∷ s)) ≡ false
     started = unfold scanAll in begun-all s (scanByte unread b) (begun unread b)
 
--- after them there are no lines
-no-lines : (k : ℕ) → logLinesIn k [] ≡ []
-unfolding logLinesIn
-no-lines zero = refl
-no-lines (suc k) = refl
-
-none-after : (k : ℕ) (s : List ℕ) → has newlineByte s ≡ false → logLinesIn k (afterLine s) ≡ []
-unfolding afterLine
-none-after k s e = ap (logLinesIn k) (past-none newlineByte s e) ∙ no-lines k
-
 -- ---- the whole log
 fed-lines : (c : Case) (k : ℕ) (s : List ℕ) (ls : List LogLine) → length s ≤ k → fedFault c (feed c (fedOf c ls) s)
-    ≡ linesFaultIn c (ls ++ logLinesIn k s)
-unfolding logLinesIn
+    ≡ linesFaultIn c (ls ++ linesBy slotSays badLine k s)
+unfolding linesBy
 fed-lines c zero [] ls h = fed-none c ls
 fed-lines c zero (b ∷ s) ls h = absurd (omega arith)
 fed-lines c (suc k) [] ls h = fed-none c ls
@@ -268,17 +258,16 @@ fed-lines c (suc k) (b ∷ s) ls h =
   where
     go : (e : Bool) → has newlineByte (b ∷ s) ≡ e
         → fedFault c (feed c (fedOf c (ls ++ (slotSays (lineOf (b ∷ s)) ∷ []))) (afterLine (b ∷ s)))
-        ≡ linesFaultIn c ((ls ++ (slotSays (lineOf (b ∷ s)) ∷ [])) ++ logLinesIn k (afterLine (b ∷ s)))
-        → fedFault c (feed c (fedOf c ls) (b ∷ s))
-        ≡ linesFaultIn c (ls ++ (pick e (slotSays (lineOf (b ∷ s))) badLine ∷ logLinesIn k (afterLine (b ∷ s))))
+        ≡ linesFaultIn c ((ls ++ (slotSays (lineOf (b ∷ s)) ∷ [])) ++ linesBy slotSays badLine k (afterLine (b ∷ s)))
+        → fedFault c (feed c (fedOf c ls) (b ∷ s)) ≡ linesFaultIn c (ls ++ linesBy slotSays badLine (suc k) (b ∷ s))
     go true e ih =
         ap (λ (t : List ℕ). fedFault c (feed c (fedOf c ls) t)) (sym (line-cut (b ∷ s) e))
         ∙ ap (fedFault c) (fed-line c ls (lineOf (b ∷ s)) (afterLine (b ∷ s)) (unfold lineOf in upTo-without newlineByte (b ∷ s)))
         ∙ ih
-        ∙ ap (linesFaultIn c) (append-assoc ls (slotSays (lineOf (b ∷ s)) ∷ []) (logLinesIn k (afterLine (b ∷ s))))
+        ∙ ap (linesFaultIn c) (append-assoc ls (slotSays (lineOf (b ∷ s)) ∷ []) (linesBy slotSays badLine k (afterLine (b ∷ s)))
+        ∙ ap (λ (ms : List LogLine). ls ++ ms) (sym (by-ended slotSays badLine k b s e)))
     go false e ih =
-        fed-unended c ls b s e
-        ∙ ap (λ (ms : List LogLine). linesFaultIn c (ls ++ (badLine ∷ ms))) (sym (none-after k (b ∷ s) e))
+        fed-unended c ls b s e ∙ ap (λ (ms : List LogLine). linesFaultIn c (ls ++ ms)) (sym (by-unended slotSays badLine k b s e))
 
 -- the answer read off the state that a whole log was fed to is the answer
 pub fed-fault : (c : Case) (s : List ℕ) → fedFault c (feed c opening s) ≡ linesFaultIn c (logLines s)

@@ -4,7 +4,7 @@
 use mathlib.Core.Path.{_≡_, refl, sym, ap, ap₂, _∙_}
 use mathlib.Core.Bool.{Bool, true, false}
 use mathlib.Core.Logic.{_⊎_, inl, inr}
-use mathlib.Core.List.{List, [], _∷_, _++_, append-assoc, append-nil}
+use mathlib.Core.List.{List, [], _∷_, _++_, map, append-assoc, append-nil}
 use Prim.Native.Nat.{ℕ, zero, suc, _+_, _-_, _≤_, _<_}
 use native.Mathlib.Nat.{not-suc-le-zero, add-zero, add-suc, suc-add, zero-add}
 use native.Mathlib.Omega.{arith}
@@ -43,6 +43,11 @@ pub tab-long : {A : Type 0} (f : ℕ → A) (k n : ℕ) → length (tab f k n) �
 unfolding tab
 tab-long f k zero = refl
 tab-long f k (suc n) = ap suc (tab-long f (suc k) n)
+
+pub map-tab : {A B : Type 0} (g : A → B) (f : ℕ → A) (k n : ℕ) → map g (tab f k n) ≡ tab (λ i. g (f i)) k n
+unfolding tab
+map-tab g f k zero = refl
+map-tab {B = B} g f k (suc n) = ap (λ (ys : List B). g (f k) ∷ ys) (map-tab g f (suc k) n)
 
 tab-from : {A : Type 0} (f : ℕ → A) (k n i : ℕ) (d : A) → i < n → getD (tab f k n) i d ≡ f (k + i)
 unfolding tab

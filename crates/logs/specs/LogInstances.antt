@@ -13,9 +13,9 @@ use Rattle.rules.specs.Answers.{Answer, refusal, result, settled}
 use Rattle.rules.specs.Slot.{present, judged, joined, demoted, jobsNow, contentionFree, lowered, opened, worked}
 use Rattle.rules.specs.Replay.{releasedIn}
 use Rattle.rules.specs.Text.{same, upTo, past, has, lineOf, afterLine, fieldOf, afterField, allDigits, noLeadingZero, isNumber, worth}
-use Rattle.rules.specs.Text.{numberIn, digitsIn, digitsOf}
+use Rattle.rules.specs.Text.{linesBy, numberIn, digitsIn, digitsOf}
 use Rattle.rules.specs.Writer.{moreFields, lineText}
-use Rattle.rules.specs.Log.{slotWord, fieldsIn, fieldsOf, withNumbers, slotSays, logLinesIn, logLines, risePast, rising, wellFormed}
+use Rattle.rules.specs.Log.{slotWord, fieldsIn, fieldsOf, withNumbers, slotSays, logLines, risePast, rising, wellFormed}
 use Rattle.rules.specs.Log.{keepsRule, setNamed, nameTasks, slotStands, followed, setsOf, lineFault, linesFaultIn, logFault, logAnswer}
 use Rattle.rules.specs.Log.{slotLineText}
 use Rattle.theory.specs.Instances.{caseA}
@@ -83,7 +83,7 @@ pub record Computed : Type 0 where
 
 pub computed : Computed
 unfolding logAnswer settled logFault caseFault orNext firstOf procsFault policyFault tableFault taskFault endFault traceFault inOrder
-    lastBefore releaseFault absentFault linesFaultIn lineFault logLines logLinesIn slotSays fieldsOf fieldsIn withNumbers same upTo past
+    lastBefore releaseFault absentFault linesFaultIn lineFault logLines linesBy slotSays fieldsOf fieldsIn withNumbers same upTo past
     has lineOf afterLine fieldOf afterField allDigits noLeadingZero isNumber worth numberIn wellFormed rising risePast slotStands
     nameTasks setNamed keepsRule holdsBelow followed setsOf sum tab mapFrom availability availabilities count freeCount present judged
     joined demoted jobsNow contentionFree lowered opened worked releasedIn slotLineText lineText moreFields digitsOf digitsIn

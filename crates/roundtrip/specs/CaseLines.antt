@@ -12,7 +12,7 @@ use Rattle.rules.specs.Limits.{maxText, taskWidth, releaseWidth}
 use Rattle.rules.specs.Case.{Case, caseOf, taskCount, releaseCount}
 use Rattle.rules.specs.Refusals.{noFault, Accepted}
 use Rattle.rules.specs.Reader.{caseOrder, linesFault, noCase, withLine, withLines}
-use Rattle.rules.specs.Writer.{procsText, policyText, taskText, endText, releaseText, caseText}
+use Rattle.rules.specs.Writer.{joinedText, procsText, policyText, taskText, endText, releaseText, caseText}
 use Rattle.legal.specs.Legal.{Legal, legal}
 use Rattle.texts.specs.Fields.{All}
 use Rattle.roundtrip.specs.LineTrip.{wordIn, fieldsIn, lineBytes, Below}
@@ -35,7 +35,7 @@ caseLines c = Procs (c .procs) ∷ Policy (c .policy) ∷ (rowLines (c .table) +
 
 -- the text of a case is the text of its lines
 pub case-text : (c : Case) → caseText c ≡ textOf (caseLines c)
-unfolding caseText caseLines textOf procsText policyText taskText endText releaseText lineBytes wordIn fieldsIn rowAt releaseAt
+unfolding caseText caseLines textOf joinedText procsText policyText taskText endText releaseText lineBytes wordIn fieldsIn rowAt releaseAt
 case-text c =
     let rows = rowLines (c .table) in
     let releases = releaseLines (c .trace) in

@@ -8,9 +8,9 @@ use Rattle.rules.specs.Case.{caseOf}
 use Rattle.rules.specs.Refusals.{noFault, orNext, firstOf, procsFault, policyFault, tableFault, taskFault, endFault, traceFault, inOrder}
 use Rattle.rules.specs.Refusals.{lastBefore, releaseFault, absentFault, caseFault}
 use Rattle.rules.specs.Text.{same, upTo, past, has, lineOf, afterLine, fieldOf, afterField, allDigits, noLeadingZero, isNumber, worth}
-use Rattle.rules.specs.Text.{numberIn, digitsIn, digitsOf, procsWord, policyWord, taskWord, endWord, releaseWord}
+use Rattle.rules.specs.Text.{linesBy, numberIn, digitsIn, digitsOf, procsWord, policyWord, taskWord, endWord, releaseWord}
 use Rattle.rules.specs.Policies.{edf, edfWord, policyName}
-use Rattle.rules.specs.Reader.{oneNumber, twoNumbers, threeNumbers, wordKind, fieldsSay, lineSays, linesIn, linesOf, mayFollow, mayStop}
+use Rattle.rules.specs.Reader.{oneNumber, twoNumbers, threeNumbers, wordKind, fieldsSay, lineSays, linesOf, mayFollow, mayStop}
 use Rattle.rules.specs.Reader.{linesFault, withLine, withLines, caseWithDefault, caseIn, lengthFault, textFault}
 use Rattle.rules.specs.Writer.{joinedText, moreFields, lineText, procsText, policyText, taskText, endText, releaseText, caseText}
 use Rattle.roundtrip.specs.RoundTrip.{policyGiven, withPolicy}
@@ -37,7 +37,7 @@ full-text = first-line ++ (policy-line ++ other-lines)
 pub short-accepted : textFault short-text ≡ noFault
 unfolding same upTo past has lineOf afterLine fieldOf afterField allDigits noLeadingZero isNumber worth numberIn oneNumber twoNumbers
     threeNumbers wordKind
-    fieldsSay lineSays linesIn linesOf mayFollow mayStop linesFault withLine withLines caseWithDefault caseIn lengthFault textFault orNext
+    fieldsSay lineSays linesBy linesOf mayFollow mayStop linesFault withLine withLines caseWithDefault caseIn lengthFault textFault orNext
     firstOf procsFault policyFault
     tableFault taskFault endFault traceFault inOrder lastBefore releaseFault sum absentFault caseFault
 short-accepted = refl
@@ -45,7 +45,7 @@ short-accepted = refl
 pub short-case : caseIn short-text ≡ caseOf 1 edf (5 ∷ 1 ∷ 5 ∷ []) 5 (0 ∷ 1 ∷ [])
 unfolding same upTo past has lineOf afterLine fieldOf afterField allDigits noLeadingZero isNumber worth numberIn oneNumber twoNumbers
     threeNumbers wordKind
-    fieldsSay lineSays linesIn linesOf withLine withLines caseWithDefault caseIn
+    fieldsSay lineSays linesBy linesOf withLine withLines caseWithDefault caseIn
 short-case = refl
 
 pub short-written : caseText (caseOf 1 edf (5 ∷ 1 ∷ 5 ∷ []) 5 (0 ∷ 1 ∷ [])) ≡ full-text

@@ -10,9 +10,9 @@ use lib.ListN.{length}
 use Rattle.rules.specs.Words.{pick}
 use Rattle.rules.specs.Case.{Case}
 use Rattle.rules.specs.Refusals.{noFault, policyFault}
-use Rattle.rules.specs.Text.{newlineByte, has, lineOf, afterLine, fieldOf, afterField, numberIn}
+use Rattle.rules.specs.Text.{newlineByte, has, lineOf, afterLine, linesBy, fieldOf, afterField, numberIn}
 use Rattle.rules.specs.Policies.{edf, maxPolicy}
-use Rattle.rules.specs.Reader.{withNumber, oneNumber, twoNumbers, threeNumbers, policyIn, wordKind, fieldsSay, lineSays, linesIn, linesOf}
+use Rattle.rules.specs.Reader.{withNumber, oneNumber, twoNumbers, threeNumbers, policyIn, wordKind, fieldsSay, lineSays, linesOf}
 use Rattle.rules.specs.Reader.{policyWhenAbsent, noCase, withLine, withLines, caseWithDefault, caseIn}
 use Rattle.legal.specs.Passing.{policy-none}
 use Rattle.texts.specs.PolicyNames.{name-read}
@@ -84,8 +84,8 @@ more-known c (Row T C D) h k = h
 more-known c (End e) h k = h
 more-known c (Release t n) h k = h
 
-lines-known : (k : ℕ) (s : List ℕ) (c : Case) → c .policy ≤ maxPolicy → withLines c (linesIn k s) .policy ≤ maxPolicy
-unfolding withLines linesIn
+lines-known : (k : ℕ) (s : List ℕ) (c : Case) → c .policy ≤ maxPolicy → withLines c (linesBy lineSays Bad k s) .policy ≤ maxPolicy
+unfolding withLines linesBy
 lines-known zero s c h = h
 lines-known (suc k) [] c h = h
 lines-known (suc k) (b ∷ s) c h =

@@ -15,7 +15,7 @@ use Rattle.rules.specs.Refusals.{noFault, Accepted}
 use Rattle.rules.specs.Text.{newlineByte, lineOf, afterLine, fieldOf}
 use Rattle.rules.specs.Reader.{wordKind, linesOf, kindOf, policyWhenAbsent, noCase, withLine, withLines}
 use Rattle.rules.specs.Reader.{caseWithDefault, caseIn, textFault}
-use Rattle.rules.specs.Writer.{policyText, caseText}
+use Rattle.rules.specs.Writer.{joinedText, policyText, caseText}
 use Rattle.legal.specs.Legal.{legal}
 use Rattle.texts.specs.Passing.{text-clear, text-none}
 use Rattle.roundtrip.specs.LineTrip.{wordIn, fieldsIn, lineBytes, body-kind}
@@ -57,7 +57,7 @@ given-second k l ls = rw (afterLine-text k (l ∷ ls), lineOf-text l ls, body-ki
 
 policy-put-in : (k l : Line) (ls : List Line) → kindOf l ≡ 3
     → withPolicy (textOf (k ∷ l ∷ ls)) ≡ textOf (k ∷ Policy policyWhenAbsent ∷ l ∷ ls)
-unfolding withPolicy textOf policyText lineBytes wordIn fieldsIn
+unfolding withPolicy textOf joinedText policyText lineBytes wordIn fieldsIn
 policy-put-in k l ls e =
     rw (given-second k l ls, e, lineOf-text k (l ∷ ls), afterLine-text k (l ∷ ls))
     (sym (textOf-cons k (Policy policyWhenAbsent ∷ l ∷ ls)))

@@ -13,7 +13,7 @@ use Rattle.rules.specs.Slot.{Setup, TaskSet, jobAt, dueOf, present, jobs
 use Rattle.rules.specs.Replay.{setupIn, releasedAt, fresh, ranAt}
 use Rattle.rules.specs.Refusals.{unless, first, firstOf, caseFault}
 use Rattle.rules.specs.Answers.{Answer, settled}
-use Rattle.rules.specs.Text.{newlineByte, tabByte, same, has, lineOf, afterLine, fieldOf, afterField, numberIn, digitsOf}
+use Rattle.rules.specs.Text.{tabByte, same, has, linesBy, fieldOf, afterField, numberIn, digitsOf}
 use Rattle.rules.specs.Writer.{joinedText, lineText}
 use Rattle.rules.specs.declared.Fault.{Fault}
 use Rattle.rules.specs.declared.Num.{Num}
@@ -61,14 +61,9 @@ slotFields (w ∷ fs) = pick (same w slotWord) (withNumbers fs timeAndTasks) bad
 unfoldable pub slotSays : List ℕ → LogLine
 slotSays s = slotFields (fieldsOf s)
 
--- the lines of a log, of which each takes up at least one byte; a last line without its newline is badly formed
-unfoldable pub logLinesIn : ℕ → List ℕ → List LogLine
-logLinesIn zero s = []
-logLinesIn (suc k) [] = []
-logLinesIn (suc k) (b ∷ s) = pick (has newlineByte (b ∷ s)) (slotSays (lineOf (b ∷ s))) badLine ∷ logLinesIn k (afterLine (b ∷ s))
-
+-- the lines of a log
 unfoldable pub logLines : List ℕ → List LogLine
-logLines s = logLinesIn (length s) s
+logLines s = linesBy slotSays badLine (length s) s
 
 -- the tasks that a line names
 abbrev pub tasksOf : LogLine → List ℕ

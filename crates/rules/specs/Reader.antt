@@ -1,6 +1,6 @@
 -- The reader (document 01, "The case text"): what each line says, the order of lines, the case of a text; and from "Refusals by number"
 -- the refusals 1 to 3, their order, and the reader's whole answer with what its two lent rooms hold at exit.
-use Prim.Native.Nat.{ℕ, zero, suc, _*_}
+use Prim.Native.Nat.{ℕ, suc, _*_}
 use mathlib.Core.List.{List, [], _∷_, _++_}
 use mathlib.Core.Bool.{Bool, _&&_, _||_, not}
 use lib.Dec.{eqb, leb}
@@ -10,8 +10,7 @@ use Rattle.rules.specs.Limits.{maxTasks, maxReleases, maxText, taskWidth
 use Rattle.rules.specs.Case.{Case, caseOf, taskCount, releaseCount}
 use Rattle.rules.specs.Refusals.{unless, first, roomFault, caseFault}
 use Rattle.rules.specs.Answers.{Answer, settled, kept}
-use Rattle.rules.specs.Text.{newlineByte, same, has, lineOf, afterLine, fieldOf, afterField, numberIn, procsWord, policyWord}
-use Rattle.rules.specs.Text.{taskWord, endWord, releaseWord}
+use Rattle.rules.specs.Text.{same, linesBy, fieldOf, afterField, numberIn, procsWord, policyWord, taskWord, endWord, releaseWord}
 use Rattle.rules.specs.Policies.{edf, policyOf}
 use Rattle.rules.specs.declared.Fault.{Fault}
 use Rattle.rules.specs.declared.Num.{Num}
@@ -61,14 +60,9 @@ fieldsSay k s =
 unfoldable pub lineSays : List ℕ → Line
 lineSays s = fieldsSay (wordKind (fieldOf s)) (afterField s)
 
--- the lines of a text, of which each takes up at least one byte; a last line without its newline is badly formed
-unfoldable pub linesIn : ℕ → List ℕ → List Line
-linesIn zero s = []
-linesIn (suc k) [] = []
-linesIn (suc k) (b ∷ s) = pick (has newlineByte (b ∷ s)) (lineSays (lineOf (b ∷ s))) Bad ∷ linesIn k (afterLine (b ∷ s))
-
+-- the lines of a case text
 unfoldable pub linesOf : List ℕ → List Line
-linesOf s = linesIn (length s) s
+linesOf s = linesBy lineSays Bad (length s) s
 
 -- ---- the order of lines
 abbrev pub kindOf : Line → ℕ

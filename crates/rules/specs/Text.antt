@@ -47,6 +47,12 @@ lineOf s = upTo newlineByte s
 unfoldable pub afterLine : List ℕ → List ℕ
 afterLine s = past newlineByte s
 
+-- the lines of a text, of which each takes up at least one byte, each by what it says; a last line without its newline is badly formed
+unfoldable pub linesBy : {A : Type 0} → (List ℕ → A) → A → ℕ → List ℕ → List A
+linesBy says bad zero s = []
+linesBy says bad (suc k) [] = []
+linesBy says bad (suc k) (b ∷ s) = pick (has newlineByte (b ∷ s)) (says (lineOf (b ∷ s))) bad ∷ linesBy says bad k (afterLine (b ∷ s))
+
 -- ---- fields: the first of a line, and what follows the tab after it
 unfoldable pub fieldOf : List ℕ → List ℕ
 fieldOf s = upTo tabByte s
