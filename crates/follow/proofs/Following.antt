@@ -32,10 +32,10 @@ use Rattle.texts.specs.Fields.{upTo-without, upTo-take, upTo-short, upTo-stop}
 use Rattle.bridge.specs.Steps.{Full, demoted-full, readied-full, lowered-full, worked-full}
 use Rattle.bridge.specs.Turn.{Reached}
 use Rattle.bridge.specs.Course.{fresh-idle}
-use Rattle.bridge.specs.Quiet.{Jobless, no-jobs, jobless, still-closed}
+use Rattle.bridge.specs.Quiet.{Jobless, no-jobs, jobless, jobless-calm, calm-settled, still-closed}
 use Rattle.rule.specs.Same.{keeps-lowered}
 use Rattle.slot.specs.Stepped.{settledRun}
-use Rattle.slot.specs.Calm.{Ahead, jobless-calm, calm-settled}
+use Rattle.slot.specs.Calm.{Ahead}
 use Rattle.traces.specs.Traces.{releases, due}
 use Rattle.traces.specs.Given.{orderly, rel-at, readied-same}
 use Rattle.traces.specs.NoneDue.{reached-next, none-now}
@@ -102,7 +102,8 @@ opens-settled c t r s next jobs rel full re w e n = record {
 }
 
 -- where there is no job any set leaves the run as it is, and the next slot finds it so
-pub worked-none : (g : Setup) (t : ℕ) (r : Run) (jobs : ℕ) (calm : Bool) (runs : TaskSet) → Full r → jobs ≡ jobsNow r → jobs ≡ 0
+pub worked-none : (g : Setup) (t : ℕ) (r : Run) (jobs : ℕ) (calm : Bool) (runs : TaskSet) → Full r → jobs ≡ jobsNow r
+    → jobs ≡ 0
     → (r ≡ worked runs (lowered g r)) × Ahead (g .policy) (suc t) r jobs calm
 worked-none g t r jobs calm runs full n z =
     let idle = jobless r (sym n ∙ z) in
@@ -125,7 +126,8 @@ module _ (c : Case) (t : ℕ) (r s : Run) (next jobs : ℕ) (full : Full r) (o :
 module _ (c : Case) (n : ℕ) (x : LineScan) (e : Ended) (ys : List Bool) (r : Run) (long : length ys ≡ maxTasks)
     (said : endedAs e ys ≡ lineEnd x) where
   -- a line badly formed
-  closed-bad : (s : Run) (next jobs : ℕ) (calm : Bool) → formedHeard n (endedAs e ys) ≡ false → Closed c n x r s ys next jobs calm 17
+  closed-bad : (s : Run) (next jobs : ℕ) (calm : Bool) → formedHeard n (endedAs e ys) ≡ false
+      → Closed c n x r s ys next jobs calm 17
   closed-bad s next jobs calm b = record {
     long = long;
     fault = rw (← said) (heard-bad c n _ (endedAs e ys) b);
@@ -299,7 +301,8 @@ stays c f d b w bad = record {
     at-fault (suc n) l e = rw (ne-eqb (suc n) 0 (λ z. omega arith)) at e
 
 -- ---- the same of any state whose number says that nothing is at fault
-module _ (c : Case) (r : Run) (xs : List Bool) (scan : Scan) (lines next jobs : ℕ) (calm : Bool) (number : ℕ) (none : number ≡ 0) where
+module _ (c : Case) (r : Run) (xs : List Bool) (scan : Scan) (lines next jobs : ℕ) (calm : Bool) (number : ℕ)
+    (none : number ≡ 0) where
   pub step-within : (l : List ℕ) (s : Scan) (ys : List Bool) → has newlineByte l ≡ false → length ys ≡ maxTasks
       → scanAs s ys ≡ scanAll (scanAs scan xs) l → (f : Feed) → Follows c f (logOf r xs scan lines next jobs calm number)
       → Follows c (feed c f l) (logOf r ys s lines next jobs calm number)
@@ -314,9 +317,12 @@ module _ (c : Case) (r : Run) (xs : List Bool) (scan : Scan) (lines next jobs : 
     where
       go : (t : Bool) → eqb number′ 0 ≡ t
           → Follows c (feedByte c f b) (logOf s ys (pick t startOf scan) (pick t (lines + 1) lines) next′ jobs′ calm′ number′)
-      go true z = line-over c f r xs scan lines next jobs calm (rw none at w) s ys next′ jobs′ calm′ number′ b e k (eqb-true number′ 0 z)
+      go true z =
+          line-over c f r xs scan lines next jobs calm (rw none at w) s ys next′ jobs′ calm′ number′ b e k
+          (eqb-true number′ 0 z)
       go false z =
-          line-stopped c f r xs scan lines next jobs calm (rw none at w) s ys next′ jobs′ calm′ number′ b e k (eqb-false number′ 0 z)
+          line-stopped c f r xs scan lines next jobs calm (rw none at w) s ys next′ jobs′ calm′ number′ b e k
+          (eqb-false number′ 0 z)
 
   -- what the code that goes on asks for
   pub asks : Followed c (logOf r xs scan lines next jobs calm number) → (length xs ≡ maxTasks) × LineSmall (scanAs scan xs)

@@ -73,10 +73,11 @@ pub record Opens (g : Setup) (trace : List ℕ) (t : ℕ) (r s : Run) (next jobs
 
 -- ---- one line with n before it: its fault, and where it has none and stands before the end, the run behind its slot, the releases, and
 -- what is known of the slot after it
-pub record Closed (c : Case) (n : ℕ) (x : LineScan) (r s : Run) (ys : List Bool) (next jobs : ℕ) (calm : Bool) (number : ℕ) : Type 0 where
-  pub long : length ys ≡ maxTasks
-  pub fault : heardFault c n (opened (setupIn c) n (releasedAt c n) r) (lineEnd x) ≡ faultAt number n
-  pub run : number ≡ 0 → n < c .end → s ≡ worked (setHeard (lineEnd x)) (opened (setupIn c) n (releasedAt c n) r)
-  pub full : number ≡ 0 → n < c .end → Full s
-  pub reached : number ≡ 0 → n < c .end → Reached (c .trace) next (suc n)
-  pub ahead : number ≡ 0 → n < c .end → Ahead (c .policy) (suc n) s jobs calm
+pub record Closed (c : Case) (n : ℕ) (x : LineScan) (r s : Run) (ys : List Bool) (next jobs : ℕ) (calm : Bool) (number : ℕ) : Type 0
+  where
+    pub long : length ys ≡ maxTasks
+    pub fault : heardFault c n (opened (setupIn c) n (releasedAt c n) r) (lineEnd x) ≡ faultAt number n
+    pub run : number ≡ 0 → n < c .end → s ≡ worked (setHeard (lineEnd x)) (opened (setupIn c) n (releasedAt c n) r)
+    pub full : number ≡ 0 → n < c .end → Full s
+    pub reached : number ≡ 0 → n < c .end → Reached (c .trace) next (suc n)
+    pub ahead : number ≡ 0 → n < c .end → Ahead (c .policy) (suc n) s jobs calm

@@ -289,7 +289,7 @@ fn number_byte(s: Scan, b: u8, named: &mut [bool; MAX_TASKS]) -> Scan
 }
 
 // One more byte of a line, which is no newline.
-pub fn scan_byte(s: Scan, b: u8, named: &mut [bool; MAX_TASKS]) -> Scan
+fn scan_byte(s: Scan, b: u8, named: &mut [bool; MAX_TASKS]) -> Scan
     requires { ⌜ LineSmall (scanAs s (now named)) ⌝ }
     requires { ⌜ length (now named) ≡ maxTasks ⌝ }
     ensures { λ r. ⌜ (length (now (named .exit)) ≡ maxTasks)

@@ -84,7 +84,8 @@ more-known c (Row T C D) h k = h
 more-known c (End e) h k = h
 more-known c (Release t n) h k = h
 
-lines-known : (k : ℕ) (s : List ℕ) (c : Case) → c .policy ≤ maxPolicy → withLines c (linesBy lineSays Bad k s) .policy ≤ maxPolicy
+lines-known : (k : ℕ) (s : List ℕ) (c : Case) → c .policy ≤ maxPolicy
+    → withLines c (linesBy lineSays Bad k s) .policy ≤ maxPolicy
 unfolding withLines linesBy
 lines-known zero s c h = h
 lines-known (suc k) [] c h = h

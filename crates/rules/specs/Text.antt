@@ -51,7 +51,8 @@ afterLine s = past newlineByte s
 unfoldable pub linesBy : {A : Type 0} → (List ℕ → A) → A → ℕ → List ℕ → List A
 linesBy says bad zero s = []
 linesBy says bad (suc k) [] = []
-linesBy says bad (suc k) (b ∷ s) = pick (has newlineByte (b ∷ s)) (says (lineOf (b ∷ s))) bad ∷ linesBy says bad k (afterLine (b ∷ s))
+linesBy says bad (suc k) (b ∷ s) =
+    pick (has newlineByte (b ∷ s)) (says (lineOf (b ∷ s))) bad ∷ linesBy says bad k (afterLine (b ∷ s))
 
 -- ---- fields: the first of a line, and what follows the tab after it
 unfoldable pub fieldOf : List ℕ → List ℕ

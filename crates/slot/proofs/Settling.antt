@@ -78,7 +78,8 @@ demoted-same : (cf : Bool) (t : Task) → (cf && isDemotedNow (t .job)) ≡ fals
 demoted-same cf t e = rw e
 
 -- what has been filled in is there
-pub filling-past : (n : ℕ) (ys xs s : List Task) (i : ℕ) (d : Task) → i < n → Filling n ys xs s (i + 1) → getD s i d ≡ getD ys i d
+pub filling-past : (n : ℕ) (ys xs s : List Task) (i : ℕ) (d : Task) → i < n → Filling n ys xs s (i + 1)
+    → getD s i d ≡ getD ys i d
 filling-past n ys xs s i d l w =
     ap (λ (z : List Task). getD z i d) (w .so-far) ∙
     List·getD-append (take (i + 1) ys) (drop (i + 1) xs) d i (omega (arith, length-take-le (i + 1) ys (omega (arith, w .long′)))) ∙

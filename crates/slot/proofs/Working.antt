@@ -27,7 +27,8 @@ use Rattle.bridge.specs.Jobs.{idle-now}
 use Rattle.jobs.specs.Tasks.{workedOn}
 use Rattle.queue.proofs.Marks.{nobody, Marking, mark-none, mark-store, mark-keep, mark-all}
 use Rattle.slot.specs.Stepped.{missedIn}
-use Rattle.slot.specs.Calm.{changes, Ahead}
+use Rattle.bridge.specs.Quiet.{changes}
+use Rattle.slot.specs.Calm.{Ahead}
 use Rattle.slot.proofs.Settling.{filling-past, long, count-more, bit-few}
 
 -- an idle task is left as it is
@@ -127,14 +128,16 @@ abbrev pub put : List Task → ℕ → Bool → (Task → Task) → List Task
 put ts i b f = set ts i (pick b (f (getD ts i noTask)) (getD ts i noTask))
 
 module _ (ts : List Task) (i : ℕ) (b : Bool) (f : Task → Task) where
-  pub put-taken : (s : Run) (v : Task) → b ≡ true → v ≡ f (getD ts i noTask) → s ≡ runOf (set ts i v) → s .tasks ≡ put ts i b f
+  pub put-taken : (s : Run) (v : Task) → b ≡ true → v ≡ f (getD ts i noTask) → s ≡ runOf (set ts i v)
+      → s .tasks ≡ put ts i b f
   put-taken s v e q h = rw (h, e, q)
 
   pub put-left : (s : Run) → b ≡ false → s ≡ runOf ts → s .tasks ≡ put ts i b f
   put-left s e h = rw (h, e) (sym (set-getD ts i noTask))
 
 -- both steps, each written by itself
-put-both : (ts us vs : List Task) (i : ℕ) (a b : Bool) → i < length ts → us ≡ put ts i a loweredTask → vs ≡ put us i b workedTask
+put-both : (ts us vs : List Task) (i : ℕ) (a b : Bool) → i < length ts → us ≡ put ts i a loweredTask
+    → vs ≡ put us i b workedTask
     → vs ≡ set ts i (workedOn a b (getD ts i noTask))
 put-both ts us vs i a b l p q =
     let u : Task = pick a (loweredTask (getD ts i noTask)) (getD ts i noTask) in
@@ -157,7 +160,8 @@ remains lowers runs r j = isPresent (workedAt lowers runs r j .job)
 abbrev pub Done : Bool → TaskSet → Run → List Task → ℕ → Type 0
 Done lowers runs r ts i = Filling maxTasks (mapAt (λ j t. workedOn lowers (runs j) t) (r .tasks)) (r .tasks) ts i
 
-pub record Running (lowers : Bool) (runs : TaskSet) (policy next : ℕ) (r : Run) (ts : List Task) (n : ℕ) (same : Bool) (i : ℕ) : Type 0
+pub record Running (lowers : Bool) (runs : TaskSet) (policy next : ℕ) (r : Run) (ts : List Task) (n : ℕ) (same : Bool)
+    (i : ℕ) : Type 0
   where
     pub tasks : Done lowers runs r ts i
     pub few : n ≤ i
@@ -183,7 +187,8 @@ module _ (lowers : Bool) (runs : TaskSet) (policy next : ℕ) (r : Run) where
         (each-store (λ j t. workedOn lowers (runs j) t) maxTasks (r .tasks) ts i noTask _ l (w .tasks) refl)
 
     -- one task more is done, and its job known
-    running-more : (ts' : List Task) (m : ℕ) (c : Bool) → Done lowers runs r ts' (i + 1) → m ≡ n + bit (isPresent (getD ts' i noTask .job))
+    running-more : (ts' : List Task) (m : ℕ) (c : Bool) → Done lowers runs r ts' (i + 1)
+        → m ≡ n + bit (isPresent (getD ts' i noTask .job))
         → (c ≡ true → same ≡ true) → (c ≡ true → changes policy next (getD ts' i noTask .job) ≡ false)
         → Running lowers runs policy next r ts' m c (i + 1)
     running-more ts' m c f k s e =
@@ -220,7 +225,8 @@ module _ (lowers : Bool) (runs : TaskSet) (policy next : ℕ) (r : Run) where
         (each-keep (λ j t. workedOn lowers (runs j) t) maxTasks (r .tasks) ts i noTask l (w .tasks)
         (idle-stays lowers (runs i) (getD ts i noTask) (idle-now (getD ts i noTask .job) p))) p
 
-  module _ (a : Run) (n : ℕ) (same : Bool) (i : ℕ) (l : maxTasks ≤ i) (w : Running lowers runs policy next r (a .tasks) n same i) where
+  module _ (a : Run) (n : ℕ) (same : Bool) (i : ℕ) (l : maxTasks ≤ i)
+      (w : Running lowers runs policy next r (a .tasks) n same i) where
     pub running-all : a ≡ eachTask (λ j t. workedOn lowers (runs j) t) r
     running-all = ap runOf (filling-all maxTasks _ _ _ i l (w .tasks))
 

@@ -83,7 +83,8 @@ module _ {A : Type 0} (says : List ℕ → A) (bad : A) where
   -- lines that are read, none of them badly formed, and written are the same bytes
   pub by-back : (bytes : A → List ℕ) (P : A → Type 0) → (P bad → ⊥)
       → ((s : List ℕ) → P (says s) → bytes (says s) ≡ s ++ (newlineByte ∷ []))
-      → (k : ℕ) (s : List ℕ) → length s ≤ k → All P (linesBy says bad k s) → joinedText (map bytes (linesBy says bad k s)) ≡ s
+      → (k : ℕ) (s : List ℕ) → length s ≤ k → All P (linesBy says bad k s)
+      → joinedText (map bytes (linesBy says bad k s)) ≡ s
   unfolding linesBy All joinedText
   by-back bytes P none back zero [] h a = refl
   by-back bytes P none back zero (b ∷ s) h a = absurd (omega arith)

@@ -34,14 +34,14 @@ use Rattle.follow.proofs.feed.Statement.{statement}
 use Rattle.follow.proofs.feed.Tie as tie
 
 abbrev Inv-loop : tie.InvT-loop
-Inv-loop procs policy table end trace piece counts run₀ named₀ scan₀ lines₀ next₀ jobs₀ calm₀ number₀ i₀ run named scan lines next
-    jobs calm number i =
+Inv-loop procs policy table end trace piece counts run₀ named₀ scan₀ lines₀ next₀ jobs₀ calm₀ number₀ i₀ run named scan
+    lines next jobs calm number i =
     Feeding (caseOf procs policy table end trace) piece (logOf run₀ named₀ scan₀ lines₀ next₀ jobs₀ calm₀ number₀) i
     (logOf run named scan lines next jobs calm number)
 
 abbrev μ-loop : tie.MeasureT-loop
-μ-loop procs policy table end trace piece counts run₀ named₀ scan₀ lines₀ next₀ jobs₀ calm₀ number₀ i₀ run named scan lines next jobs
-    calm number i =
+μ-loop procs policy table end trace piece counts run₀ named₀ scan₀ lines₀ next₀ jobs₀ calm₀ number₀ i₀ run named scan
+    lines next jobs calm number i =
     length piece - i
 
 -- ---- what a turn starts from
@@ -193,7 +193,8 @@ idle-here c n =
     (members (h .before .before .line-end .last .1 .0))
     (opened-whole (caseIn l) (l .loop .lines) (l .loop .run) (j .if4 .run) (j .if4 .next) (j .if4 .jobs) (known (j .before .before) .0) o)
     (o .counted)
-    (none (j .if4 .jobs) (rw (eq-eqb (c .before .before .slot-number .result) 0 n) at (sym (c .before .is-worked .ensures) ∙ c .if5 .left)))
+    (none (j .if4 .jobs)
+    (rw (eq-eqb (c .before .before .slot-number .result) 0 n) at (sym (c .before .is-worked .ensures) ∙ c .if5 .left)))
   where
     none : (jobs : ℕ) → not (eqb jobs 0) ≡ false → jobs ≡ 0
     none jobs e = eqb-true jobs 0 (not-left (eqb jobs 0) e)
