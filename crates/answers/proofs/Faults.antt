@@ -17,7 +17,7 @@ use Rattle.rules.specs.Report.{refusedLine}
 use Rattle.rules.specs.declared.Taken.{Taken}
 use Rattle.rules.specs.declared.Taken.the-variants as Taken·
 use Rattle.legal.specs.Firsts.{next-none, next-some}
-use Rattle.prints.specs.Lines.{runningLine}
+use Rattle.sets.specs.Sets.{runningLine}
 use Rattle.answers.specs.Prints.{caseSays, textSays}
 use Rattle.wishes.specs.Asks.{askedFault}
 use Rattle.answers.specs.Prints.{wishFault}

@@ -9,9 +9,9 @@ ghost use Rattle.counts.specs.Needs.{Counts};
 ghost use Rattle.prints.specs.Lines.{lineRoom};
 ghost use Rattle.ownlog.specs.Pieces.{Plays, Another, Wrote};
 use prints::LINE_ROOM;
-use prints::put_slot_line;
 use rules::MAX_TASKS;
 use rules::Run;
+use sets::put_slot_line;
 
 // Our own replay as it stands at a time, before step 1: the run, and the place of the first release that is not before the time.
 pub struct Play {

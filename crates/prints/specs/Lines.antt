@@ -1,18 +1,15 @@
--- The printed lines of rules, Report, by the numbers that stand in them, as their writers get them; and the two lines beside document 01's
--- own: the free count of a task and the running set of a slot.
-use Prim.Native.Nat.{ℕ, zero, suc, _+_, _*_, _/_, _%_, _≤_}
-use mathlib.Core.List.{List, [], _∷_, _++_, map}
-use lib.Dec.{eqb}
+-- The printed lines of rules, Report, by the numbers that stand in them, as their writers get them; and a line beside document 01's own:
+-- the free count of a task.
+use Prim.Native.Nat.{ℕ, _+_, _*_, _≤_}
+use mathlib.Core.List.{List, [], _∷_}
 use lib.ListN.{length}
-use Rattle.rules.specs.Words.{pick}
-use Rattle.rules.specs.Limits.{maxTasks}
 use Rattle.rules.specs.Replay.{Record}
 use Rattle.rules.specs.Text.{digitsOf}
 use Rattle.rules.specs.Policies.{policyName}
 use Rattle.rules.specs.Writer.{lineText}
 use Rattle.rules.specs.Report.{spaceByte, runWord, jobWord, totalWord, verdictName, finishField, demotionField}
 use Rattle.puts.specs.Laid.{Laid}
-use Rattle.puts.specs.Fields.{fieldsText, countWord, runningWord}
+use Rattle.puts.specs.Fields.{fieldsText, countWord}
 
 -- ---- how many bytes are enough
 -- a space and a number of at most ten digits
@@ -56,22 +53,3 @@ totalText n met missed open· = lineText spaceByte totalWord (digitsOf n ∷ dig
 -- `count`: task, its free count
 unfoldable pub countLine : ℕ → ℕ → List ℕ
 countLine task count = lineText spaceByte countWord (digitsOf task ∷ digitsOf count ∷ [])
-
--- ---- the tasks of a set
--- a number without its i lowest bits
-unfoldable pub halved : ℕ → ℕ → ℕ
-halved zero s = s
-halved (suc i) s = halved i s / 2
-
--- bit (task − 1) says whether the task is in the set; the task at i has the number i + 1
-abbrev pub memberAt : ℕ → ℕ → List ℕ
-memberAt s i = pick (eqb (halved i s % 2) 1) (suc i ∷ []) []
-
--- which of the first n tasks are in the set, in rising order
-unfoldable pub membersOf : ℕ → ℕ → List ℕ
-membersOf s zero = []
-membersOf s (suc n) = membersOf s n ++ memberAt s n
-
--- `running`: slot, the tasks that run in it in rising order
-unfoldable pub runningLine : ℕ → ℕ → List ℕ
-runningLine slot set = lineText spaceByte runningWord (map digitsOf (slot ∷ membersOf set maxTasks))

@@ -23,7 +23,7 @@ use Rattle.legal.specs.Settled.{refuses, settled-clear, valuesOf, no-refusal, s
 use Rattle.texts.specs.Passing.{row-passes, room-passes, next-last}
 use Rattle.roundtrip.specs.CaseLines.{text-fits}
 use Rattle.roundtrip.specs.CallTrip.{write-clear}
-use Rattle.prints.specs.Lines.{runningLine}
+use Rattle.sets.specs.Sets.{runningLine}
 use Rattle.report.specs.Cases.{slotText, refusalText, printRoom}
 
 -- ---- answers

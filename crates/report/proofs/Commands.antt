@@ -26,7 +26,8 @@ use Rattle.rules.specs.Report.{refusedLine}
 use Rattle.lists.specs.Lists.{tab-long, tab-at, tab-front, tab-cong}
 use Rattle.legal.specs.Settled.{kept-new}
 use Rattle.roundtrip.specs.CaseLines.{text-fits}
-use Rattle.prints.specs.Lines.{lineRoom, Printed, runningLine}
+use Rattle.prints.specs.Lines.{lineRoom, Printed}
+use Rattle.sets.specs.Sets.{runningLine}
 use Rattle.report.specs.Cases.{linesText, countText, countsText, slotText, Listed, printRoom}
 use Rattle.report.proofs.Lines.{line-fits}
 use Rattle.report.proofs.Answers.{never-refused, values-are, write-fits, slot-refused, slot-ran}

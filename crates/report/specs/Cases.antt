@@ -14,7 +14,8 @@ use Rattle.rules.specs.Replay.{recordOf, runningSet}
 use Rattle.rules.specs.Writer.{joinedText}
 use Rattle.rules.specs.Report.{jobLine, refusedLine}
 use Rattle.puts.specs.Laid.{Laid}
-use Rattle.prints.specs.Lines.{lineRoom, jobRoom, countLine, runningLine}
+use Rattle.prints.specs.Lines.{lineRoom, jobRoom, countLine}
+use Rattle.sets.specs.Sets.{runningLine}
 
 -- ---- lines one after the other
 -- the first n lines of those that f gives

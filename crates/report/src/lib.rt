@@ -13,7 +13,6 @@ use prints::put_count;
 use prints::put_job;
 use prints::put_refused;
 use prints::put_run;
-use prints::put_running;
 use prints::put_total;
 use rules::Counted;
 use rules::MAX_RELEASES;
@@ -22,6 +21,7 @@ use rules::RECORD_WIDTH;
 use rules::Replayed;
 use rules::Running;
 use rules::Written;
+use sets::put_running;
 
 // Room for the records of as many releases as a case may have.
 const RECORDS_ROOM: usize = MAX_RELEASES * RECORD_WIDTH;

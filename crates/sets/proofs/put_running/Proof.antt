@@ -1,4 +1,4 @@
--- `prints::put_running` meets its contract: it is a line of numbers, the slot first and then the tasks of the set.
+-- `sets::put_running` meets its contract: it is a line of numbers, the slot first and then the tasks of the set.
 use mathlib.Core.Path.{_≡_, refl}
 use mathlib.Core.List.{_∷_}
 use Prim.Native.Nat.{_-_}
@@ -8,10 +8,11 @@ use lib.ListN.{take}
 use Rattle.rules.specs.Limits.{maxTasks}
 use Rattle.rules.specs.Report.{spaceByte}
 use Rattle.puts.specs.Fields.{wordOf}
-use Rattle.prints.specs.Lines.{membersOf, runningLine}
-use Rattle.prints.proofs.Lines.{line-within, line-printed, members-few, slot-first}
-use Rattle.prints.proofs.put_running.Statement.{statement}
-use Rattle.prints.proofs.put_running.Tie as tie
+use Rattle.prints.proofs.Lines.{line-within, line-printed}
+use Rattle.sets.specs.Sets.{membersOf, runningLine}
+use Rattle.sets.proofs.Tasks.{members-few, slot-first}
+use Rattle.sets.proofs.put_running.Statement.{statement}
+use Rattle.sets.proofs.put_running.Tie as tie
 
 -- the numbers of the line
 numbers : (c : tie.After-put-members)

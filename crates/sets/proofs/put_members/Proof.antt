@@ -1,14 +1,14 @@
--- `prints::put_members` meets its contract: the members among the tasks passed are laid, and the bits left are those of the others.
+-- `sets::put_members` meets its contract: the members among the tasks passed are laid, and the bits left are those of the others.
 use mathlib.Core.Path.{_≡_, refl, ap}
 use Prim.Native.Nat.{_-_, _/_, _≤_}
 use native.Mathlib.Omega.{arith}
 use Rattle.rules.specs.Limits.{maxTasks}
 use Rattle.puts.specs.Laid.{Laid}
 use Rattle.puts.proofs.Puts.{laid-none, laid-then, laid-length}
-use Rattle.prints.specs.Lines.{halved, membersOf}
-use Rattle.prints.proofs.Lines.{members-none, members-suc, members-few, halved-none, halved-suc}
-use Rattle.prints.proofs.put_members.Statement.{statement}
-use Rattle.prints.proofs.put_members.Tie as tie
+use Rattle.sets.specs.Sets.{halved, membersOf}
+use Rattle.sets.proofs.Tasks.{members-none, members-suc, members-few, halved-none, halved-suc}
+use Rattle.sets.proofs.put_members.Statement.{statement}
+use Rattle.sets.proofs.put_members.Tie as tie
 
 abbrev Inv-loop : tie.InvT-loop
 Inv-loop out₀ at set end₀ bits₀ i₀ out end bits i =

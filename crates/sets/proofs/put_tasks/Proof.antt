@@ -1,4 +1,4 @@
--- `prints::put_tasks` meets its contract: the members among the tasks passed are laid.
+-- `sets::put_tasks` meets its contract: the members among the tasks passed are laid.
 use mathlib.Core.Path.{_≡_}
 use mathlib.Core.Bool.{false}
 use Prim.Native.Nat.{_-_, _≤_}
@@ -9,9 +9,9 @@ use Rattle.rules.specs.Limits.{maxTasks}
 use Rattle.rules.specs.Slot.{tasksFrom, tasksIn}
 use Rattle.puts.specs.Laid.{Laid}
 use Rattle.puts.proofs.Puts.{laid-then, laid-length}
-use Rattle.prints.proofs.Lines.{tasks-none, tasks-suc, tasks-few}
-use Rattle.prints.proofs.put_tasks.Statement.{statement}
-use Rattle.prints.proofs.put_tasks.Tie as tie
+use Rattle.sets.proofs.Tasks.{tasks-none, tasks-suc, tasks-few}
+use Rattle.sets.proofs.put_tasks.Statement.{statement}
+use Rattle.sets.proofs.put_tasks.Tie as tie
 
 abbrev Inv-loop : tie.InvT-loop
 Inv-loop out₀ at set end₀ i₀ out end i = (i ≤ maxTasks) × Laid at (tasksFrom (λ j. getD set j false) 0 i) out₀ out end

@@ -16,7 +16,7 @@ use Rattle.rules.specs.Writer.{lineText}
 use Rattle.rules.specs.Report.{spaceByte}
 use Rattle.lists.specs.Lists.{tasks-more}
 use Rattle.puts.specs.Fields.{runningWord}
-use Rattle.prints.specs.Lines.{halved, membersOf, runningLine}
+use Rattle.sets.specs.Sets.{halved, membersOf, runningLine}
 
 bit-small : (b : Bool) → bit b ≤ 1
 bit-small true = omega arith

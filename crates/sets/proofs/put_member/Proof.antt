@@ -1,8 +1,8 @@
--- `prints::put_member` meets its contract: the number, or nothing.
+-- `sets::put_member` meets its contract: the number, or nothing.
 use borrow.Author.Needs.{needs}
 use Rattle.puts.proofs.Puts.{laid-none, laid-byte}
-use Rattle.prints.proofs.put_member.Statement.{statement}
-use Rattle.prints.proofs.put_member.Tie as tie
+use Rattle.sets.proofs.put_member.Statement.{statement}
+use Rattle.sets.proofs.put_member.Tie as tie
 
 mul-out : tie.Need-mul-out
 mul-out c = search needs

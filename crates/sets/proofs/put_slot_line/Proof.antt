@@ -1,4 +1,4 @@
--- `prints::put_slot_line` meets its contract: it is a line of numbers, the time first and then the tasks of the set.
+-- `sets::put_slot_line` meets its contract: it is a line of numbers, the time first and then the tasks of the set.
 use mathlib.Core.Path.{_≡_, refl}
 use mathlib.Core.Bool.{false}
 use mathlib.Core.List.{List, _∷_}
@@ -11,9 +11,10 @@ use Rattle.rules.specs.Slot.{tasksIn}
 use Rattle.rules.specs.Text.{tabByte}
 use Rattle.rules.specs.Log.{slotLineText}
 use Rattle.puts.specs.Fields.{wordOf}
-use Rattle.prints.proofs.Lines.{line-within, line-printed, tasks-few, slot-first}
-use Rattle.prints.proofs.put_slot_line.Statement.{statement}
-use Rattle.prints.proofs.put_slot_line.Tie as tie
+use Rattle.prints.proofs.Lines.{line-within, line-printed}
+use Rattle.sets.proofs.Tasks.{tasks-few, slot-first}
+use Rattle.sets.proofs.put_slot_line.Statement.{statement}
+use Rattle.sets.proofs.put_slot_line.Tie as tie
 
 -- the tasks of the set, and that they are few
 abbrev tasks : tie.Start → List ℕ
