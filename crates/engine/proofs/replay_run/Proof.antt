@@ -3,7 +3,7 @@ use mathlib.Core.Path.{refl, sym, _∙_}
 use native.Mathlib.Omega.{arith}
 use Rattle.rules.specs.Calls.{roomAfter}
 use Rattle.legal.specs.Legal.{legal}
-use Rattle.engine.proofs.Going.{same-room, room-open}
+use Rattle.slots.specs.Rooms.{same-room, room-open}
 use borrow.Author.Needs.{needs}
 use Rattle.engine.proofs.replay_run.Statement.{statement}
 use Rattle.engine.proofs.replay_run.Tie as tie

@@ -18,7 +18,7 @@ use Rattle.bridge.specs.Turn.{Reached, turn-idle}
 use Rattle.bridge.specs.Quiet.{Jobless, still-after, none-after}
 use Rattle.traces.specs.Given.{orderly}
 use Rattle.traces.specs.NoneDue.{reached-next, none-now}
-use Rattle.engine.specs.Walks.{places, Rests}
+use Rattle.slots.specs.Walks.{places, Rests}
 
 -- at time t, before step 1: the state, the releases that have been and their places; where the last slot had no job every task is idle
 pub record Walking (c : Case) (t : ℕ) (run : Run) (place : List ℕ) (next jobs : ℕ) : Type 0 where

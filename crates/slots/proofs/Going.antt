@@ -2,32 +2,29 @@
 use mathlib.Core.Path.{_≡_, refl, ap, sym, _∙_}
 use mathlib.Core.Bool.{Bool, true, false}
 use mathlib.Core.List.{List, _++_}
-use Prim.Native.Nat.{ℕ, suc, _+_, _-_, _*_, min, _≤_, _<_}
+use Prim.Native.Nat.{ℕ, suc, _+_, _*_, _≤_, _<_}
 use native.Mathlib.Numerals.{add-one}
 use native.Mathlib.Omega.{arith}
-use lib.Dec.{leb}
 use lib.ListN.{length, drop, length-append}
-use lib.Seq.{drop-at}
-use borrow.Author.Tests.{lt-leb}
 use Rattle.rules.specs.declared.Run.{Run}
-use Rattle.rules.specs.Words.{tab, firstIn}
+use Rattle.rules.specs.Words.{tab}
 use Rattle.rules.specs.Limits.{maxTasks, recordWidth}
-use Rattle.rules.specs.Case.{Case, deadline, releaseCount, timeOf}
+use Rattle.rules.specs.Case.{Case, releaseCount}
 use Rattle.rules.specs.Slot.{jobAt, isMissed, missed}
-use Rattle.rules.specs.Replay.{setupIn, releasedAt, fresh, stateFrom, stateAt, ranAt, finishedAt, missedAt, demotedAt, slotsBy}
-use Rattle.rules.specs.Replay.{finishBy, demotionBy, verdictBy, recordBy, numbers}
-use Rattle.lists.specs.Lists.{tab-long, tab-at, tab-cong, members}
+use Rattle.rules.specs.Replay.{setupIn, releasedAt, fresh, stateFrom, stateAt, ranAt, finishedAt, missedAt, demotedAt, recordBy, numbers}
+use Rattle.lists.specs.Lists.{tab-at, tab-cong, members}
 use Rattle.legal.specs.Legal.{Legal}
-use Rattle.bridge.specs.Records.{taskAt, good-at, at-first}
+use Rattle.bridge.specs.Records.{at-first}
 use Rattle.bridge.specs.Turn.{lastPlace, Reached}
 use Rattle.bridge.specs.Events.{turn-event}
-use Rattle.bridge.specs.Notes.{numbers-long, noteTo, Handed, noted-all}
+use Rattle.bridge.specs.Notes.{noteTo, Handed, noted-all}
 use Rattle.slot.specs.Stepped.{Stepped}
-use Rattle.notes.specs.Noted.{Roomy, openRecord}
+use Rattle.notes.specs.Noted.{Roomy}
 use Rattle.traces.specs.Traces.{releases}
 use Rattle.traces.specs.Step.{same-step, next-run}
-use Rattle.engine.specs.Walks.{places, Rests, LastRan, roomAt}
-use Rattle.engine.proofs.Quiet.{Walking, none-left, still-walking, still-ran, still-records}
+use Rattle.slots.specs.Walks.{places, Rests, LastRan, roomAt}
+use Rattle.slots.specs.Rooms.{records-long, same-room}
+use Rattle.slots.proofs.Quiet.{Walking, none-left, still-walking, still-ran, still-records}
 
 -- after the slot at t: how the walk stands, and the set that ran
 pub record Turned (c : Case) (t : ℕ) (run : Run) (place : List ℕ) (next jobs : ℕ) (rs : List Bool) : Type 0 where
@@ -87,37 +84,6 @@ module _ (c : Case) (clock : ℕ) (rel : List Bool) (re : rel ≡ releases (c .t
     }
 
 -- ---- the records
--- at time 0 every record is open
-open-at-0 : (c : Case) → Legal c → (j : ℕ) → j < releaseCount (c .trace) → recordBy c 0 j ≡ openRecord
-unfolding recordBy verdictBy finishBy demotionBy slotsBy firstIn
-open-at-0 c g j h =
-    let m = good-at c g j h in
-    let z : min (deadline (c .table) (taskAt c j)) (0 - timeOf (c .trace) j) ≡ 0 = omega arith in
-    let l : leb (timeOf (c .trace) j + deadline (c .table) (taskAt c j)) 0 ≡ false =
-    lt-leb (timeOf (c .trace) j + deadline (c .table) (taskAt c j)) 0 (omega (arith, m .some, m .fits)) in
-    rw (z, l)
-
-records-long : (c : Case) (t : ℕ)
-    → length (numbers (tab (recordBy c t) 0 (releaseCount (c .trace)))) ≡ releaseCount (c .trace) * recordWidth
-records-long c t =
-    numbers-long (tab (recordBy c t) 0 (releaseCount (c .trace)))
-    ∙ ap (λ (k : ℕ). k * recordWidth) (tab-long (recordBy c t) 0 (releaseCount (c .trace)))
-
--- what is past the records stays, so that the records of any time go into the same room
-pub same-room : (c : Case) (t u : ℕ) (xs out : List ℕ) → out ≡ roomAt c t xs → roomAt c u out ≡ roomAt c u xs
-same-room c t u xs out e =
-    ap (λ l. numbers (tab (recordBy c u) 0 (releaseCount (c .trace))) ++ l)
-    (rw e (drop-at (numbers (tab (recordBy c t) 0 (releaseCount (c .trace)))) (drop (releaseCount (c .trace) * recordWidth) xs)
-    (releaseCount (c .trace) * recordWidth) (records-long c t)))
-
--- the room that holds the open records holds those of time 0
-pub room-open : (c : Case) → Legal c → (xs out : List ℕ)
-    → out ≡ numbers (tab (λ j. openRecord) 0 (releaseCount (c .trace))) ++ drop (releaseCount (c .trace) * recordWidth) xs
-    → out ≡ roomAt c 0 xs
-room-open c g xs out e =
-    e ∙ ap (λ l. numbers l ++ drop (releaseCount (c .trace) * recordWidth) xs)
-    (tab-cong (λ j. openRecord) (recordBy c 0) 0 _ (λ j p q. sym (open-at-0 c g j (omega arith))))
-
 module _ (c : Case) (g : Legal c) (clock : ℕ) (out : List ℕ) (e : out ≡ roomAt c clock out)
     (next : ℕ) (w : Reached (c .trace) next (suc clock))
     (place : List ℕ) (fs ds ls : List Bool) (o : Handed c clock next place fs ds ls) where

@@ -1,4 +1,4 @@
--- `engine::walk` meets its contract: each slot goes on from the one before it, and a slot that rests is passed over.
+-- `slots::walk` meets its contract: each slot goes on from the one before it, and a slot that rests is passed over.
 use borrow.Author.Needs.{needs}
 use mathlib.Core.Path.{_≡_, refl, sym, _∙_}
 use mathlib.Core.Bool.{true≢false}
@@ -9,10 +9,10 @@ use Rattle.rules.specs.Words.{tab}
 use Rattle.rules.specs.Case.{caseOf}
 use Rattle.legal.specs.Legal.{legal}
 use Rattle.traces.specs.Given.{orderly, needed}
-use Rattle.engine.proofs.Going.{turned, handed, roomy, room-next}
-use Rattle.engine.proofs.Going.{Going, walking-none, last-none, noted-here, going-more, going-on}
-use Rattle.engine.proofs.walk.Statement.{statement}
-use Rattle.engine.proofs.walk.Tie as tie
+use Rattle.slots.proofs.Going.{turned, handed, roomy, room-next}
+use Rattle.slots.proofs.Going.{Going, walking-none, last-none, noted-here, going-more, going-on}
+use Rattle.slots.proofs.walk.Statement.{statement}
+use Rattle.slots.proofs.walk.Tie as tie
 
 abbrev Inv-loop : tie.InvT-loop
 Inv-loop procs policy table end trace until noting out₀ counts run₀ place₀ next₀ jobs₀ ran₀ clock₀ out run place next jobs ran

@@ -1,12 +1,12 @@
--- `engine::keep_places` meets its contract.
+-- `slots::keep_places` meets its contract.
 use mathlib.Core.Path.{ap}
 use Prim.Native.Nat.{ℕ, _-_, _≤_}
 use native.Mathlib.Omega.{arith}
 use Rattle.rules.specs.Limits.{maxTasks}
-use Rattle.engine.proofs.Trace.{Keeping, keeping-more, keeping-done}
+use Rattle.slots.proofs.Trace.{Keeping, keeping-more, keeping-done}
 use borrow.Author.Needs.{needs}
-use Rattle.engine.proofs.keep_places.Statement.{statement}
-use Rattle.engine.proofs.keep_places.Tie as tie
+use Rattle.slots.proofs.keep_places.Statement.{statement}
+use Rattle.slots.proofs.keep_places.Tie as tie
 
 abbrev Inv-loop : tie.InvT-loop
 Inv-loop trace from next place₀ k₀ place k = Keeping trace next k place

@@ -1,10 +1,10 @@
--- `engine::rests` meets its contract.
+-- `slots::rests` meets its contract.
 use mathlib.Core.Path.{_≡_, sym, _∙_}
 use mathlib.Core.Bool.{Bool, true, false, not, false≢true}
 use borrow.Author.Needs.{needs}
 use Rattle.lists.specs.Tests.{not-is}
-use Rattle.engine.proofs.rests.Statement.{statement}
-use Rattle.engine.proofs.rests.Tie as tie
+use Rattle.slots.proofs.rests.Statement.{statement}
+use Rattle.slots.proofs.rests.Tie as tie
 
 is-due-requires : tie.Need-is-due-requires
 is-due-requires c κs = search needs

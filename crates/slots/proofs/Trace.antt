@@ -11,7 +11,7 @@ use Rattle.rules.specs.Case.{releaseCount, nameOf}
 use Rattle.lists.specs.Lists.{tab-set}
 use Rattle.bridge.specs.Turn.{lastPlace}
 use Rattle.traces.specs.Traces.{Orderly}
-use Rattle.engine.specs.Walks.{places}
+use Rattle.slots.specs.Walks.{places}
 
 -- the first k releases are kept, and no more than the first `next` will be
 pub record Keeping (rs : List ℕ) (next k : ℕ) (place : List ℕ) : Type 0 where

@@ -1,6 +1,6 @@
--- `engine::pass_releases` meets its contract: what is taken goes on from where it was taken, and the places are kept as far.
-use Rattle.engine.proofs.pass_releases.Statement.{statement}
-use Rattle.engine.proofs.pass_releases.Tie as tie
+-- `slots::pass_releases` meets its contract: what is taken goes on from where it was taken, and the places are kept as far.
+use Rattle.slots.proofs.pass_releases.Statement.{statement}
+use Rattle.slots.proofs.pass_releases.Tie as tie
 
 take-releases-requires : tie.Need-take-releases-requires
 take-releases-requires c κs = (c .before .before .pre .0, c .before .before .pre .1 .0)

@@ -1,4 +1,4 @@
--- What the engine's own functions ask and say, beside the definitions of "What happens at time t": where each task was released last, a
+-- What the walk over the slots asks and says, beside the definitions of "What happens at time t": where each task was released last, a
 -- slot that rests, the set that ran last, and the records in the lent room before a time.
 use mathlib.Core.Path.{_≡_}
 use mathlib.Core.Bool.{Bool, false}
