@@ -141,7 +141,7 @@ static uint32_t begin_slot(struct run *run, uint32_t t)
         if (job->remaining == 0)
             continue;
         n++;
-        if (run->demotes && job->free_left == job->remaining)
+        if (run->demotes && job->free_left >= job->remaining)
             job->demoted = BEHIND;
     }
     if (run->demotes && n <= run->procs) {

@@ -87,7 +87,7 @@ def spread_execution(rng, free, D, largest):
     if D == largest:
         return D - rng.choice([0, 0, 0, 1, 2])
     if free > 0:
-        return free + rng.choice([0, 0, 0, 0, 1, 1, 2])
+        return free + rng.choice([-1, 0, 0, 0, 1, 1, 2])
     return rng.choice([D, D, 1, rng.randint(1, D)])
 
 
@@ -95,7 +95,8 @@ def table_of(rng, procs, shape, execution):
     """A legal table, with execution times placed about the free counts.
 
     A free count rests on T and D alone, so C can be chosen beside it: equal to
-    it (demoted at once), a little above (demoted later), or below (never).
+    it or below (demoted at once), a little above (demoted later), or far above
+    (never).
     """
     known = [replay.Task(T, 1, D) for T, D in shape]
     largest = max(task.D for task in known)

@@ -41,7 +41,7 @@ def spread_deadlines(rng, tasks, longest):
 
 def dense_execution(rng, free, D, largest):
     if free > 0:
-        return free + rng.choice([0, 0, 0, 0, 1, 1, 2])
+        return free + rng.choice([-1, 0, 0, 0, 1, 1, 2])
     return rng.choice([D, D, D, D - 1, (D + 1) // 2, rng.randint(1, D)])
 
 
@@ -556,6 +556,12 @@ ALONE = cases.Case(1, 1, [7, 2, 5, 5, 2, 4], 2, [0, 1, 1, 2])
 # Two processors.  Task 1's count of 3 - 8 div 3 = 1 stays in slot 0 with its three jobs, so that it is demoted at 1.
 CROWDED = cases.Case(2, 1, [3, 2, 3, 3, 2, 2, 3, 2, 3], 3, ALL_AT_0)
 
+# Two processors.  Task 1's count of 5 - 11 div 3 = 2 is larger than its execution (request P3): demoted at 0, and due at 5 like task 3.
+LARGER = cases.Case(2, 1, [10, 1, 5, 10, 1, 1, 10, 5, 5], 2, ALL_AT_0)
+
+# Two processors.  Task 1's count of 4 - 8 div 3 = 2 is its execution: demoted at 0, alone in slot 0, and due at 4 like task 2.
+STILL_DEMOTED = cases.Case(2, 1, [5, 2, 4, 5, 3, 3, 5, 1, 1], 2, [0, 1, 1, 2, 1, 3])
+
 
 def due(*deadlines):
     """One slot on two processors, with a job of one unit for each of the deadlines."""
@@ -575,6 +581,8 @@ def of_accepted():
     yield "two demoted with other deadlines", DEMOTED_APART, "slot 0 2 3|"
     yield "a free count that went down", ALONE, "slot 0 1|slot 1 1|"
     yield "a free count that stayed", CROWDED, "slot 0 1 2|slot 1 2 3|slot 2 1 3|"
+    yield "a free count larger than what is left", LARGER, "slot 0 2 3|slot 1 1 3|"
+    yield "demoted in a slot without contention", STILL_DEMOTED, "slot 0 1|slot 1 2 3|"
     yield "a tie of three for one place", due(3, 2, 3, 3), "slot 0 2 4|"
     yield "a tie of four for two places", due(3, 3, 3, 3), "slot 0 2 3|"
 
@@ -626,6 +634,10 @@ def of_18():
     yield "our own set after the tie went the other way", TWO_AND_ONE, turned, 3, "slot 2: task 2 runs without a job"
     yield "nobody after the tie went the other way", TWO_AND_ONE, "slot 0 2|slot 1 1|slot 2|slot 3|", 3, "slot 2: 0 ran of 1 that should"
     yield "demoted in between", CROWDED, "slot 0 1 2|slot 1 1 2|", 2, f"slot 1: task 3 {normal(3)} waits, task 1 {demoted(3)} runs"
+    larger = f"slot 0: task 3 {normal(5)} waits, task 1 {demoted(5)} runs"
+    yield "demoted by a larger count", LARGER, "slot 0 1 2|slot 1 3|", 1, larger
+    again = f"slot 1: task 2 {normal(4)} waits, task 1 {demoted(4)} runs"
+    yield "still demoted", STILL_DEMOTED, "slot 0 1|slot 1 1 3|", 2, again
     yield "both demoted", DEMOTED, "slot 0 1 2|slot 1 3|", 1, f"slot 0: task 3 {normal(2)} waits, task 1 {demoted(5)} runs"
     yield "the later of two demoted", DEMOTED_APART, "slot 0 1 3|", 1, f"slot 0: task 2 {demoted(4)} waits, task 1 {demoted(5)} runs"
     yield "the second is too late", due(1, 5, 3), "slot 0 1 2|", 1, f"slot 0: task 3 {normal(3)} waits, task 2 {normal(5)} runs"

@@ -367,13 +367,14 @@ class FreeCountLoweredAlways(replay.LogRun):
 WRONG = [FollowsOurReplay, EqualDeadlinesRefused, FewerAccepted, MoreAccepted, DemotedBeforeNormal, KindsForgotten,
          DeadlinesForgottenAmongDemoted, FirstRunningOnly, LowestWaitingOnly, AbsentOverlooked, JudgedPastTheEnd, NoTaskIsBadForm,
          RuleBeforeRise, NumberOfLinesFirst, TooManyAccepted, TooFewAccepted, LastNewlineNotAsked, AnyBlanks, ZerosInFront,
-         TimeNotTestedPastTheEnd, MissedJobsStay, NeverDemoted, FreeCountKept, FreeCountLoweredAlways]
+         TimeNotTestedPastTheEnd, MissedJobsStay, NeverDemoted, FreeCountKept, FreeCountLoweredAlways,
+         test_replay.DemotedOnlyWhereEqual, test_replay.DemotedWhereStrictlyLarger, test_replay.ComparedWithC, test_replay.NormalAgain]
 
 
 class WrongChecks(unittest.TestCase):
 
     def test_each_is_told_by_the_logs(self):
-        found = [log for log in logs.logs("wrong", 1_500) if replay.fault_of_case(*log.case) is None]
+        found = [log for log in logs.logs("wrong", 3_000) if replay.fault_of_case(*log.case) is None]
         right = [replay.LogRun(*log.case).fault_of_log(log.data) for log in found]
         told = {error.__name__: sum(error(*log.case).fault_of_log(log.data) != fault for log, fault in zip(found, right))
                 for error in WRONG}

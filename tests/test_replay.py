@@ -104,10 +104,24 @@ class WorkedByHand(Checks):
                 self.assertAccepted(answer, [2, 0, 1],
                                     [1, 5, 0, 1, 5, 0, 3, 0, 0])
 
-    def test_one_task_is_never_demoted(self):
+    def test_one_task_is_demoted_at_its_release(self):
+        """Never demoted before request P3: its free count is larger than its execution."""
         self.assertAccepted(replay.counts(1, [5, 1, 5], roomy(1)), [1], [3])
         answer = replay.replay(1, EDF_CF, [5, 1, 5], 5, [0, 1], roomy(3))
-        self.assertAccepted(answer, [1, 0, 0], [1, 1, 0])
+        self.assertAccepted(answer, [1, 0, 0], [1, 1, 1])
+
+    def test_a_larger_free_count(self):
+        """Request P3: set A with deadline 5 for task 1, whose free count is then 2.
+
+        Count for l = 5: S = 5 + 1 + 5 = 11, 5 - 11 div 3 = 2.  Task 1, with 1
+        to run, is demoted at 0 and makes way for task 3, which EDF misses.
+        """
+        table = [10, 1, 5, 10, 1, 1, 10, 5, 5]
+        self.assertAccepted(replay.counts(2, table, roomy(3)), [3], [2, 0, 2])
+        self.assertAccepted(replay.replay(2, EDF_CF, table, 10, ALL_THREE, roomy(9)),
+                            [3, 0, 0], [1, 2, 1, 1, 1, 0, 1, 5, 0])
+        self.assertAccepted(replay.replay(2, EDF, table, 10, ALL_THREE, roomy(9)),
+                            [2, 1, 0], [1, 1, 0, 1, 1, 0, 2, 0, 0])
 
     def test_a_deadline_equal_to_the_end_is_judged(self):
         table = [4, 2, 4, 4, 2, 4]
@@ -1237,8 +1251,38 @@ class DividedByM(replay.Run):
         return max(0, task.D - S // self.procs)
 
 
+# Step 3 read wrongly.  These are runs that can follow a log too, for test_logs.py.
+
+
+class DemotedOnlyWhereEqual(replay.LogRun):
+    """Document 01's own step, before request P3."""
+
+    def is_to_be_demoted(self, job):
+        return not job.demoted and job.free == job.remaining
+
+
+class DemotedWhereStrictlyLarger(replay.LogRun):
+    def is_to_be_demoted(self, job):
+        return not job.demoted and job.free > job.remaining
+
+
+class ComparedWithC(replay.LogRun):
+    def is_to_be_demoted(self, job):
+        return not job.demoted and job.free >= self.tasks[job.task - 1].C
+
+
+class NormalAgain(replay.LogRun):
+    """A demoted job carries no count; once it has run, it is taken to be behind with 0, and normal again."""
+
+    def work(self, running, t):
+        super().work(running, t)
+        for job in running:
+            if job.demoted:
+                job.demoted, job.free = False, 0
+
+
 class ErrorsThatLookRight(Checks):
-    """For each error of document 01, a small case that tells it.
+    """For each error of document 01 and of request P3, a small case that tells it.
 
     Each test holds the right answer, worked out by hand, and the answer that
     the error gives.
@@ -1287,20 +1331,23 @@ class ErrorsThatLookRight(Checks):
         The error lowers the count to 0 in slot 0: task 1 stays normal and
         finishes at 2, and task 3 is missed.
 
-        m = 1, EDF-CF, (8,2,2) (8,1,7), both at 0, end 7.
+        m = 2, EDF-CF, (9,2,6) at 1, (9,2,2) (9,8,9) (9,3,3) at 0, end 9.
 
-        Free counts 0, 3.  Task 2 waits in slots 0 and 1 with N = 2, keeps its
-        count of 3 and is never demoted.  The error lowers it to 1, which is
-        the execution left: demoted at 2.  N is the same before and after the
-        releases of slot 1, so this case tells no other error on the list.
+        Free counts 1, 0, 3, 0.  Tasks 2 and 4 run in slots 0 and 1.  In slot 2
+        N = 3; tasks 4 and 1 run, and task 1 keeps its count of 1, so that it
+        is demoted at 3.  The error lowers it to 0: never demoted.  N of slot 2
+        is the same before and after its releases, so this case tells no other
+        error on the list.
         """
         self.told(FreeCountLoweredAtOneMore,
                   (2, EDF_CF, [3, 2, 3, 3, 2, 2, 3, 2, 3], 3, ALL_THREE),
                   [1, 3, 2, 1, 2, 0, 1, 3, 3],
                   [1, 2, 0, 1, 2, 0, 2, 0, 0])
-        alone = (1, EDF_CF, [8, 2, 2, 8, 1, 7], 7, [0, 1, 0, 2])
-        right = [1, 2, 0, 1, 3, 0]
-        self.told(FreeCountLoweredAtOneMore, alone, right, [1, 2, 0, 1, 3, 3])
+        alone = (2, EDF_CF, [9, 2, 6, 9, 2, 2, 9, 8, 9, 9, 3, 3], 9,
+                 [0, 2, 0, 3, 0, 4, 1, 1])
+        right = [1, 2, 0, 2, 0, 0, 1, 3, 0, 1, 4, 4]
+        self.told(FreeCountLoweredAtOneMore, alone, right,
+                  [1, 2, 0, 2, 0, 0, 1, 3, 0, 1, 4, 0])
         self.assertEqual(sum(CountedBeforeReleases(*alone).play_whole(), []),
                          right)
 
@@ -1351,16 +1398,63 @@ class ErrorsThatLookRight(Checks):
                   [1, 1, 1, 1, 1, 0, 2, 0, 0])
 
     def test_own_availability_left_out(self):
-        """m = 1, EDF-CF, (2,1,2) (2,1,1), both at 0, end 2.
+        """m = 1, EDF-CF, (2,2,2) (2,2,2), both at 0, end 2.
 
-        Count for l = 2: S = 2 + 1 = 3, 2 - 1 = 1; for l = 1: S = 2, 1 - 1 = 0.
-        Task 1 is demoted at 0, task 2 runs first, both are met.  The error
-        gives 2 and 1: task 2 is demoted instead, and missed.
+        Count for l = 2: S = 2 + 2 = 4, 2 - 2 = 0.  Task 1 runs and is met.  The
+        error gives 1 for both: at 1 task 1 has 1 left, is demoted and makes way
+        for task 2, and both are missed.
         """
-        case = (1, EDF_CF, [2, 1, 2, 2, 1, 1], 2, [0, 1, 0, 2])
-        self.free_counts_told(OwnAvailabilityLeftOut, case, [1, 0], [2, 1])
+        case = (1, EDF_CF, [2, 2, 2, 2, 2, 2], 2, [0, 1, 0, 2])
+        self.free_counts_told(OwnAvailabilityLeftOut, case, [0, 0], [1, 1])
         self.told(OwnAvailabilityLeftOut, case,
-                  [1, 2, 1, 1, 1, 0], [1, 1, 0, 2, 0, 1])
+                  [1, 2, 0, 2, 0, 0], [2, 0, 2, 2, 0, 0])
+
+    def test_demoted_only_where_the_two_are_equal(self):
+        """m = 2, EDF-CF, (10,1,5) (10,1,1) (10,5,5), all at 0, end 10.
+
+        Free counts 2, 0, 2.  Task 1 is demoted at 0, and all are met.  The
+        error leaves it normal, it runs in slot 0, and task 3 is missed.
+        """
+        self.told(DemotedOnlyWhereEqual,
+                  (2, EDF_CF, [10, 1, 5, 10, 1, 1, 10, 5, 5], 10, ALL_THREE),
+                  [1, 2, 1, 1, 1, 0, 1, 5, 0],
+                  [1, 1, 0, 1, 1, 0, 2, 0, 0])
+
+    def test_demoted_only_where_the_count_is_strictly_larger(self):
+        """m = 2, EDF-CF, (3,1,2) (3,1,1) (3,2,2), all at 0, end 2.
+
+        Free counts 1, 0, 1.  Task 1 is demoted at 0 and task 3 at 1, and all
+        are met.  The error demotes none, and task 3 is missed.
+        """
+        self.told(DemotedWhereStrictlyLarger,
+                  (2, EDF_CF, [3, 1, 2, 3, 1, 1, 3, 2, 2], 2, ALL_THREE),
+                  [1, 2, 1, 1, 1, 0, 1, 2, 2],
+                  [1, 1, 0, 1, 1, 0, 2, 0, 0])
+
+    def test_the_count_compared_with_the_whole_execution(self):
+        """m = 2, EDF-CF, (3,2,3) (3,2,2) (3,2,3), all at 0, end 3.
+
+        Free counts 1, 0, 1.  Task 1 runs in slot 0, has 1 left and is demoted
+        at 1, and all are met.  The error compares 1 with its C of 2: task 1
+        stays normal and finishes at 2, and task 3 is missed.
+        """
+        self.told(ComparedWithC,
+                  (2, EDF_CF, [3, 2, 3, 3, 2, 2, 3, 2, 3], 3, ALL_THREE),
+                  [1, 3, 2, 1, 2, 0, 1, 3, 3],
+                  [1, 2, 0, 1, 2, 0, 2, 0, 0])
+
+    def test_a_demoted_job_made_normal_again(self):
+        """m = 2, EDF-CF, (5,2,4) at 0, (5,3,3) (5,1,1) at 1, end 4.
+
+        Free counts 2, 1, 0.  Task 1 is demoted at 0 and runs alone in slot 0.
+        At 1 it makes way for tasks 2 and 3, and all are met.  The error has it
+        normal again by then: due at 4 like task 2, it comes first, and task 2
+        is missed.
+        """
+        self.told(NormalAgain,
+                  (2, EDF_CF, [5, 2, 4, 5, 3, 3, 5, 1, 1], 4, [0, 1, 1, 2, 1, 3]),
+                  [1, 3, 1, 1, 4, 0, 1, 2, 0],
+                  [1, 2, 1, 2, 0, 0, 1, 2, 0])
 
     def test_division_by_m(self):
         """m = 2, EDF-CF, (2,1,2) (2,1,1) (2,2,2), all at 0, end 2.

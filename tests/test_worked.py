@@ -73,7 +73,7 @@ def printed_in(example):
 
 
 # ---------------------------------------------------------------------------
-# The entries, in the order of document 01; request P1's own stands beside the one that it changed
+# The entries, in the order of document 01; the requests' own stand beside those that they changed
 
 
 def availability_through_counts():
@@ -104,9 +104,17 @@ def set_b():
 
 
 def one_task():
-    """Free count 3; it finishes at 1 and is never demoted."""
+    """Free count 3; it is demoted at 0 and finishes at 1. Never demoted in document 01; request P3 changed the step."""
     yield counted(1, [5, 1, 5], 3)
-    yield judged(1, EDF_CF, [5, 1, 5], 5, [0, 1], [1, 0, 0], [1, 1, 0], "one-task")
+    yield judged(1, EDF_CF, [5, 1, 5], 5, [0, 1], [1, 0, 0], [1, 1, 1], "one-task")
+
+
+def larger_count():
+    """Set A with deadline 5 for task 1 (request P3): its free count 2 is larger than its execution, and demoted it lets task 3 meet."""
+    table = [10, 1, 5, 10, 1, 1, 10, 5, 5]
+    yield counted(2, table, 2, 0, 2)
+    yield judged(2, EDF, table, 10, ALL_AT_0, [2, 1, 0], [1, 1, 0, 1, 1, 0, 2, 0, 0], None)
+    yield judged(2, EDF_CF, table, 10, ALL_AT_0, [3, 0, 0], [1, 2, 1, 1, 1, 0, 1, 5, 0], "larger-count")
 
 
 def two_tasks():
@@ -148,7 +156,8 @@ def the_case_text():
                 accepted([101], TEXT_A + b"9999"), ["write"], TEXT_A, TEXT_A, None)
 
 
-LINES = [availability_through_counts, set_a, set_b, one_task, two_tasks, no_release, task_without_release, separation, the_case_text]
+LINES = [availability_through_counts, set_a, set_b, one_task, larger_count, two_tasks, no_release, task_without_release, separation,
+         the_case_text]
 
 
 class WorkedByHand(unittest.TestCase):

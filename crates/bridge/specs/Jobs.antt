@@ -6,7 +6,7 @@ use mathlib.Core.Bool.{Bool, true, false, _&&_, _||_, or-false, false≢true, tr
 use mathlib.Core.Logic.{_⊎_, inl, inr}
 use Prim.Native.Nat.{ℕ, zero, suc, _-_, _≤_, _<_}
 use native.Mathlib.Omega.{arith}
-use borrow.Author.Tests.{eqb-true, leb-false, lt-leb}
+use borrow.Author.Tests.{leb-true, leb-false, lt-leb}
 use Rattle.rules.specs.Words.{pick, bit, orElse}
 use Rattle.rules.specs.Slot.{isPresent, isDemoted, leftOf, freeOf, dueOf, demotes, isDemotedNow, loweredJob, kind, isLast, workedJob}
 use Rattle.rules.specs.declared.Job.{Job}
@@ -37,9 +37,12 @@ kind-demoted p now Idle e = absurd (false≢true e)
 kind-demoted p now (Normal l f d) e = absurd (false≢true e)
 kind-demoted p now (Demoted l d) e = refl
 
--- ---- step 3: all that is used of its test is that what is left is no more than the free count
+-- ---- step 3: its test, opened here alone, is whether what is left is no more than the free count
 demotes-within : (free left : ℕ) → demotes free left ≡ true → left ≤ free
-demotes-within free left e = omega (arith, eqb-true free left e)
+demotes-within free left e = leb-true left free e
+
+demotes-above : (free left : ℕ) → demotes free left ≡ false → free < left
+demotes-above free left e = leb-false left free e
 
 -- a job that is demoted now is there, is not demoted yet, and has no more left than its free count
 pub record Falls (j : Job) : Type 0 where
@@ -61,6 +64,22 @@ absent-demotes j e = not-falling j (λ f. true≢false (sym (f .there) ∙ e))
 
 pub demotes-once : (j : Job) → isDemoted j ≡ true → isDemotedNow j ≡ false
 demotes-once j e = not-falling j (λ f. true≢false (sym e ∙ f .normal))
+
+-- what step 3 leaves there and normal has more left than its free count
+pub normal-above : (j : Job) → isPresent (demotedJob true j) ≡ true → isDemoted (demotedJob true j) ≡ false
+    → freeOf (demotedJob true j) < leftOf (demotedJob true j)
+normal-above j = go (isDemotedNow j) refl
+  where
+    stays : (j : Job) → isDemotedNow j ≡ false → isPresent j ≡ true → isDemoted j ≡ false → freeOf j < leftOf j
+    stays Idle q p e = absurd (false≢true p)
+    stays (Normal l f d) q p e = demotes-above f l q
+    stays (Demoted l d) q p e = absurd (true≢false e)
+
+    go : (b : Bool) → isDemotedNow j ≡ b → isPresent (pick b (Demoted (leftOf j) (dueOf j)) j) ≡ true
+        → isDemoted (pick b (Demoted (leftOf j) (dueOf j)) j) ≡ false
+        → freeOf (pick b (Demoted (leftOf j) (dueOf j)) j) < leftOf (pick b (Demoted (leftOf j) (dueOf j)) j)
+    go true q p e = absurd (true≢false e)
+    go false q p e = stays j q p e
 
 -- k is j but for its kind and free count, demoted where `dem`
 pub record Kept (j k : Job) (dem : Bool) : Type 0 where

@@ -127,7 +127,7 @@ abbrev pub B-9 : ℕ → Entry
 B-9 policy = entry (replaying (setB policy 9) nine)
     (leaving (2 ∷ 0 ∷ 1 ∷ []) (1 ∷ 5 ∷ 0 ∷ 1 ∷ 5 ∷ 0 ∷ 3 ∷ 0 ∷ 0 ∷ []))
 
--- one task (5,1,5), m = 1: free count 3, execution 1; it finishes at 1 and is never demoted
+-- one task (5,1,5), m = 1: free count 3, execution 1; it is demoted at 0 and finishes at 1
 abbrev pub counts-one : Entry
 counts-one = entry (counting 1 (one .table) (9 ∷ [])) (leaving (1 ∷ []) (3 ∷ []))
 
@@ -135,7 +135,7 @@ abbrev pub execution-one : Entry
 execution-one = entry (plain (execution (one .table) 0 ∷ [])) (plain (1 ∷ []))
 
 abbrev pub one-task : Entry
-one-task = entry (replaying one (9 ∷ 9 ∷ 9 ∷ [])) (leaving (1 ∷ 0 ∷ 0 ∷ []) (1 ∷ 1 ∷ 0 ∷ []))
+one-task = entry (replaying one (9 ∷ 9 ∷ 9 ∷ [])) (leaving (1 ∷ 0 ∷ 0 ∷ []) (1 ∷ 1 ∷ 1 ∷ []))
 
 -- two tasks (4,2,4), m = 1, end 4, under either policy: finishes 2 and 4; the deadline equal to the end is judged
 abbrev pub two-tasks : ℕ → Entry
@@ -181,7 +181,7 @@ known :
     (records (setB edfCf 10) ≡ recordOf 1 5 0 ∷ recordOf 1 5 0 ∷ recordOf 2 0 0 ∷ []) ×
     (records (setB edf 9) ≡ recordOf 1 5 0 ∷ recordOf 1 5 0 ∷ recordOf 3 0 0 ∷ []) ×
     (records (setB edfCf 9) ≡ recordOf 1 5 0 ∷ recordOf 1 5 0 ∷ recordOf 3 0 0 ∷ []) ×
-    (records one ≡ recordOf 1 1 0 ∷ []) ×
+    (records one ≡ recordOf 1 1 1 ∷ []) ×
     (records (two edf) ≡ recordOf 1 2 0 ∷ recordOf 1 4 0 ∷ []) ×
     (records (two edfCf) ≡ recordOf 1 2 0 ∷ recordOf 1 4 0 ∷ [])
 unfolding sum firstIn tab mapFrom availability availabilities count freeCount

@@ -165,12 +165,12 @@ pub fn readied_task(t: Task, table: &[u32], i: usize, free: u32, released: bool,
     }
 }
 
-// ---- step 3: a normal job whose free count equals its remaining execution is demoted
+// ---- step 3: a normal job whose free count is at least its remaining execution is demoted
 
 fn demotes(free: u32, left: u32) -> bool
     ensures { λ r. ⌜ r ≡ demotes free left ⌝ }
 {
-    free == left
+    left <= free
 }
 
 fn is_demoted_now(j: Job) -> bool

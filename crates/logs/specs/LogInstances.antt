@@ -18,7 +18,7 @@ use Rattle.rules.specs.Writer.{moreFields, lineText}
 use Rattle.rules.specs.Log.{slotWord, fieldsIn, fieldsOf, withNumbers, slotSays, logLines, risePast, rising, wellFormed}
 use Rattle.rules.specs.Log.{keepsRule, setNamed, nameTasks, slotStands, followed, setsOf, lineFault, linesFaultIn, logFault, logAnswer}
 use Rattle.rules.specs.Log.{slotLineText}
-use Rattle.theory.specs.Instances.{caseA}
+use Rattle.theory.specs.Instances.{caseA, laterA}
 
 -- m = 1, two tasks (4, 2, 4) released at 0: their deadlines are equal
 abbrev tied : ℕ → Case
@@ -55,6 +55,10 @@ pub record Computed : Type 0 where
       × (logAnswer (caseA edf 2) (two 0 1 2 ++ one 1 3) ≡ result [])
       × (ofA (one 0 2 ++ two 1 1 3) ≡ refusal 18 1)
       × (ofA (two 0 2 3 ++ one 1 3) ≡ refusal 18 2)
+  -- a free count larger than what is left demotes: task 1 may not run before task 3, though both are due at 5
+  pub larger : (logAnswer (laterA edfCf 2) (two 0 2 3 ++ two 1 1 3) ≡ result [])
+      × (logAnswer (laterA edfCf 2) (two 0 1 2 ++ one 1 3) ≡ refusal 18 1)
+      × (logAnswer (laterA edf 2) (two 0 1 2 ++ one 1 3) ≡ result [])
   -- 18: task 0, a task beyond the table, one beyond 32, a task without a present job
   pub names : (ofA (two 0 0 3) ≡ refusal 18 1)
       × (ofA (two 0 2 4) ≡ refusal 18 1)
@@ -91,6 +95,7 @@ computed = record {
   ties = (refl, refl, refl);
   follows = (refl, refl);
   kinds = (refl, refl, refl, refl, refl, refl);
+  larger = (refl, refl, refl);
   names = (refl, refl, refl, refl);
   order = (refl, refl, refl, refl);
   forms = (refl, refl, refl, refl, refl, refl);

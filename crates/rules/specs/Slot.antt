@@ -1,5 +1,5 @@
--- One slot, from any state: the six steps of document 01, "What happens at time t, in this order", under each policy, and the sets of
--- tasks that run, finish, are removed as missed and are demoted in it; also jobs and states, from "The model".
+-- One slot, from any state: the six steps of document 01, "What happens at time t, in this order", the third as request P3 reads it, under
+-- each policy, and the sets of tasks that run, finish, are removed as missed and are demoted in it; also jobs and states, from "The model".
 -- A slot takes the set of tasks released now and not the trace, so a log or a live run can go through the same steps.
 use Prim.Native.Nat.{ℕ, zero, suc, _+_, _*_, _-_, _^_}
 use mathlib.Core.Bool.{Bool, true, false, _&&_, _||_}
@@ -107,9 +107,9 @@ joinedTask g now released i t = pick (released i) (releasedTask g now i t) t
 unfoldable pub joined : Setup → ℕ → TaskSet → Run → Run
 joined g now released r = eachTask (joinedTask g now released) r
 
--- ---- step 3, EDF-CF only: a normal job whose remaining free count equals its remaining execution becomes demoted
+-- ---- step 3, EDF-CF only: a normal job whose remaining free count is at least its remaining execution becomes demoted
 abbrev pub demotes : ℕ → ℕ → Bool
-demotes free left = eqb free left
+demotes free left = leb left free
 
 abbrev pub isDemotedNow : Job → Bool
 isDemotedNow Idle = false

@@ -37,6 +37,10 @@ tight policy = caseOf 1 policy (4 ∷ 1 ∷ 4 ∷ 4 ∷ 3 ∷ 3 ∷ []) 4 (0 ∷
 abbrev pub crowded : Case
 crowded = caseOf 2 edfCf (10 ∷ 2 ∷ 6 ∷ 10 ∷ 2 ∷ 3 ∷ 10 ∷ 3 ∷ 7 ∷ []) 10 (0 ∷ 1 ∷ 0 ∷ 2 ∷ 0 ∷ 3 ∷ [])
 
+-- set A with deadline 5 for task 1
+abbrev pub laterA : ℕ → ℕ → Case
+laterA policy end = caseOf 2 policy (10 ∷ 1 ∷ 5 ∷ 10 ∷ 1 ∷ 1 ∷ 10 ∷ 5 ∷ 5 ∷ []) end (caseA policy end .trace)
+
 -- set A with other releases
 abbrev pub releasedA : List ℕ → Case
 releasedA trace = caseOf 2 edfCf (caseA edfCf 10 .table) 10 trace
@@ -50,10 +54,12 @@ LowestOfA =
     (caseFault (releasedA (0 ∷ 1 ∷ 0 ∷ 1 ∷ [])) ≡ faultOf 9 2)
 
 -- the cases are accepted, and set A is refused where it lacks releases: the tests are computed
-tested : (Accepted (caseA edfCf 10) × Accepted (caseA edfCf 1) × Accepted (tight edfCf) × Accepted crowded) × LowestOfA
+tested :
+    (Accepted (caseA edfCf 10) × Accepted (caseA edfCf 1) × Accepted (tight edfCf) × Accepted crowded × Accepted (laterA edfCf 10)) ×
+    LowestOfA
 unfolding Accepted caseFault orNext firstOf procsFault policyFault tableFault taskFault endFault traceFault inOrder lastBefore releaseFault
     sum absentFault
-tested = ((refl, refl, refl, refl), (refl, refl, refl, refl))
+tested = ((refl, refl, refl, refl, refl), (refl, refl, refl, refl))
 
 pub accepted-A : Accepted (caseA edfCf 10)
 accepted-A = tested .0 .0
@@ -66,6 +72,9 @@ accepted-tight = tested .0 .2
 
 pub accepted-crowded : Accepted crowded
 accepted-crowded = tested .0 .3
+
+pub accepted-later-A : Accepted (laterA edfCf 10)
+accepted-later-A = tested .0 .4
 
 pub lowest-of-A : LowestOfA
 lowest-of-A = tested .1
@@ -94,6 +103,15 @@ unfolding sum firstIn tab mapFrom availability availabilities count freeCount
     present judged joined demoted jobsNow contentionFree lowered opened jobBefore rank chosen worked after ran finished demotedNow
     releasedIn stateFrom stateAt ranAt finishedAt demotedAt slotsBy finishBy demotionBy verdictBy recordBy
 demoted-later = (refl, refl)
+
+-- a free count larger than what is left demotes too (request P3): task 1 has free count 2 and execution 1, is demoted at its release and
+-- makes way for task 3, which EDF misses. Demoted only where the two are equal it would stay normal, and task 3 be missed.
+pub larger-count : (freeCount 2 (laterA edfCf 10 .table) 0 ≡ 2) × (recordBy (laterA edfCf 10) 10 0 ≡ recordOf 1 2 1)
+    × (recordBy (laterA edfCf 10) 10 2 ≡ recordOf 1 5 0) × (recordBy (laterA edf 10) 10 2 ≡ recordOf 2 0 0)
+unfolding sum firstIn tab mapFrom availability availabilities count freeCount
+    present judged joined demoted jobsNow contentionFree lowered opened jobBefore rank chosen worked after ran finished demotedNow
+    releasedIn stateFrom stateAt ranAt finishedAt demotedAt slotsBy finishBy demotionBy verdictBy recordBy
+larger-count = (refl, refl, refl, refl)
 
 -- set A cut at time 1: task 1, whose deadline is 4, is met under EDF, and under EDF-CF demoted and open. Nothing is promised of a job
 -- whose deadline is after the end, and parts 2 and 3 would be false of it.

@@ -1,5 +1,5 @@
--- Further laws of the definitions of rules, Slot and Replay (document 01, "What happens at time t, in this order"): how many run, the
--- totals, where a finish lies, who runs before whom, what a record depends on, and what missed and open mean for the states.
+-- Further laws of the definitions of rules, Slot and Replay (document 01, "What happens at time t, in this order"): what step 3 leaves, how
+-- many run, the totals, where a finish lies, who runs before whom, what a record depends on, and what missed and open mean for the states.
 use mathlib.Core.Path.{_≡_, ap, _∙_}
 use mathlib.Core.Bool.{true, false}
 use mathlib.Core.Logic.{_↔_}
@@ -11,10 +11,13 @@ use Rattle.rules.specs.Words.{countIn}
 use Rattle.rules.specs.Limits.{maxTasks}
 use Rattle.rules.specs.Case.{Case, deadline, releaseCount, timeOf, nameOf}
 use Rattle.rules.specs.Refusals.{Accepted}
-use Rattle.rules.specs.Slot.{jobAt, isDemoted, dueOf, present, readied, demoted, jobsNow, opened, ran}
+use Rattle.rules.specs.Policies.{demoting}
+use Rattle.rules.specs.Slot.{Setup, jobAt, isDemoted, leftOf, freeOf, dueOf, present, readied, demoted, jobsNow, opened, ran}
 use Rattle.rules.specs.Replay.{setupIn, releasedAt, stateAt, closing, ranAt, finishedAt, missedAt, slotsBy, finishBy, verdictBy, recordBy}
 use Rattle.rules.specs.Replay.{metJobs, missedJobs, openJobs}
-use Rattle.bridge.specs.Stands.{replayOf, replay-state}
+use Rattle.bridge.specs.Steps.{Full, readied-full, demoted-at}
+use Rattle.bridge.specs.Jobs.{normal-above}
+use Rattle.bridge.specs.Stands.{replayOf, replay-state, state-full}
 use Rattle.legal.specs.Legal.{legal}
 use Rattle.bridge.specs.Records.{taskAt}
 use Rattle.theory.specs.Counting.{first-in}
@@ -31,6 +34,20 @@ countedAt c t = demoted (setupIn c) (readied (setupIn c) t (releasedAt c t) (sta
 
 abbrev pub openedAt : Case → ℕ → Run
 openedAt c t = opened (setupIn c) t (releasedAt c t) (stateAt c t)
+
+-- ---- step 3
+-- from any state of 32 tasks, under a policy that demotes: every normal job that step 3 leaves has more left than its free count
+pub above-count : (g : Setup) → demoting (g .policy) ≡ true → (r : Run) → Full r → (i : ℕ) → i < maxTasks
+    → present (demoted g r) i ≡ true → isDemoted (jobAt (demoted g r) i) ≡ false
+    → freeOf (jobAt (demoted g r) i) < leftOf (jobAt (demoted g r) i)
+unfolding present
+above-count g cf r full i l = rw (demoted-at i l g r full, cf) (normal-above (jobAt r i))
+
+-- so in each slot of a case
+pub slot-above-count : (c : Case) → demoting (c .policy) ≡ true → (t i : ℕ) → i < maxTasks
+    → present (countedAt c t) i ≡ true → isDemoted (jobAt (countedAt c t) i) ≡ false
+    → freeOf (jobAt (countedAt c t) i) < leftOf (jobAt (countedAt c t) i)
+slot-above-count c cf t = above-count (setupIn c) cf _ (readied-full _ _ _ _ (state-full c t))
 
 -- ---- how many run
 -- in each slot exactly min(m, N) tasks run

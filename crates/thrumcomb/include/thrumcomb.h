@@ -89,7 +89,8 @@ uint32_t thrumcomb_counts(
 /*
  * The replay of a case. Refusals 4 to 14, 16.
  * out: three numbers a release, in trace order: the verdict (1 met, 2 missed, 3 open); the finish time, or 0 where there is none;
- * the demotion time + 1, or 0 where never demoted.
+ * the demotion time + 1, or 0 where never demoted. A job is demoted under EDF-CF alone, in the first slot that finds its remaining free
+ * count at least its remaining execution: also where it is larger.
  * results[0], [1], [2]: how many are met, missed, open.
  */
 uint32_t thrumcomb_replay(
