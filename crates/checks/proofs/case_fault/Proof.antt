@@ -5,7 +5,7 @@ use Rattle.rules.specs.Refusals.{orNext, caseFault}
 use Rattle.rules.specs.declared.Fault.{Fault}
 use Rattle.legal.specs.Firsts.{row-stop, row-join, row-passed}
 use Rattle.legal.specs.Passing.{sound-table}
-use Rattle.checks.specs.Needs.{headTests, traceTests}
+use Rattle.checks.specs.Rows.{headTests, traceTests}
 use borrow.Author.Needs.{needs}
 use Rattle.checks.proofs.case_fault.Statement.{statement}
 use Rattle.checks.proofs.case_fault.Tie as tie

@@ -6,7 +6,7 @@ use Rattle.rules.specs.declared.Fault.{Fault}
 use Rattle.rules.specs.Case.{taskCount}
 use Rattle.rules.specs.Refusals.{orNext, first, roomFault, countsFault}
 use Rattle.legal.specs.Firsts.{row-join}
-use Rattle.checks.specs.Needs.{tableTests}
+use Rattle.checks.specs.Rows.{tableTests}
 use borrow.Author.Needs.{needs}
 use Rattle.checks.proofs.counts_fault.Statement.{statement}
 use Rattle.checks.proofs.counts_fault.Tie as tie

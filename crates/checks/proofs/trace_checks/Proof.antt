@@ -5,7 +5,7 @@ use Rattle.rules.specs.Refusals.{orNext, first, endFault, traceFault, releasesF
 use Rattle.rules.specs.declared.Fault.{Fault}
 use Rattle.legal.specs.Firsts.{row-stop, row-join, row-passed}
 use Rattle.legal.specs.Passing.{end-clear, trace-clear}
-use Rattle.checks.proofs.Walk.{both-tested}
+use Rattle.lowest.proofs.Walk.{both-tested}
 use borrow.Author.Needs.{needs}
 use Rattle.checks.proofs.trace_checks.Statement.{statement}
 use Rattle.checks.proofs.trace_checks.Tie as tie

@@ -1,4 +1,4 @@
--- `checks::tasks_fault` meets its contract.
+-- `lowest::tasks_fault` meets its contract.
 use Prim.Native.Nat.{_-_, _≤_, _<_}
 use mathlib.Core.Path.{_≡_, sym, _∙_}
 use native.Mathlib.Omega.{arith}
@@ -8,8 +8,8 @@ use Rattle.legal.specs.Firsts.{none-yet, none-more, first-hit}
 use Rattle.legal.specs.Passing.{task-none}
 use Rattle.legal.specs.Settled.{clear}
 use borrow.Author.Needs.{needs}
-use Rattle.checks.proofs.tasks_fault.Statement.{statement}
-use Rattle.checks.proofs.tasks_fault.Tie as tie
+use Rattle.lowest.proofs.tasks_fault.Statement.{statement}
+use Rattle.lowest.proofs.tasks_fault.Tie as tie
 
 abbrev Inv-loop : tie.InvT-loop
 Inv-loop table tasks i₀ i = (i ≤ tasks) × (firstOf (taskFault table) i ≡ noFault)

@@ -1,4 +1,4 @@
--- `checks::releases_fault` meets its contract.
+-- `lowest::releases_fault` meets its contract.
 use Prim.Native.Nat.{_-_, _≤_, _<_}
 use mathlib.Core.Path.{_≡_}
 use native.Mathlib.Omega.{arith}
@@ -6,10 +6,10 @@ use Rattle.rules.specs.Words.{tab}
 use Rattle.rules.specs.Limits.{maxTasks, maxEnd}
 use Rattle.rules.specs.Case.{releaseCount, timeOf, nameOf}
 use Rattle.rules.specs.Refusals.{lastBefore}
-use Rattle.checks.proofs.Walk.{Checked, passed, checked-none, checked-more, checked-hit, checked-all}
+use Rattle.lowest.proofs.Walk.{Checked, passed, checked-none, checked-more, checked-hit, checked-all}
 use borrow.Author.Needs.{needs}
-use Rattle.checks.proofs.releases_fault.Statement.{statement}
-use Rattle.checks.proofs.releases_fault.Tie as tie
+use Rattle.lowest.proofs.releases_fault.Statement.{statement}
+use Rattle.lowest.proofs.releases_fault.Tie as tie
 
 abbrev Inv-loop : tie.InvT-loop
 Inv-loop table end trace last₀ releases j₀ last j = (j ≤ releases) × Checked table end trace last j

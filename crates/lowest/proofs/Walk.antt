@@ -19,7 +19,7 @@ use Rattle.lists.specs.Lists.{tab-at, tab-set}
 use Rattle.lists.specs.Tests.{and-left, and-right}
 use Rattle.legal.specs.Firsts.{unless-clear, next-same, AllClear, row-stop, row-passed, none-yet, none-more, first-same, first-hit}
 use Rattle.legal.specs.Passing.{named-clear, Released, release-clear, release-none}
-use Rattle.checks.specs.Needs.{lasts, Early, ReleasesTested, unkeptFault}
+use Rattle.lowest.specs.Needs.{lasts, Early, ReleasesTested, unkeptFault}
 
 -- the tests of a release before the last one, and the last, 10, which is asked of a release that passes them
 abbrev pub nearTests : List ℕ → ℕ → List ℕ → ℕ → List Fault

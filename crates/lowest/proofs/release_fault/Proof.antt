@@ -1,4 +1,4 @@
--- `checks::release_fault` meets its contract.
+-- `lowest::release_fault` meets its contract.
 use mathlib.Core.Path.{_≡_, sym, ap, _∙_}
 use mathlib.Core.Bool.{Bool, true, false, _&&_}
 use mathlib.Core.List.{List}
@@ -10,10 +10,10 @@ use Rattle.rules.specs.Limits.{maxTasks}
 use Rattle.rules.specs.Case.{period, nameOf, taskCount}
 use Rattle.rules.specs.Refusals.{unless, lastBefore, releaseFault}
 use Rattle.rules.specs.declared.Fault.{Fault}
-use Rattle.checks.proofs.Walk.{Near, near-found, near-fails, near-named, since-found, last-at}
+use Rattle.lowest.proofs.Walk.{Near, near-found, near-fails, near-named, since-found, last-at}
 use borrow.Author.Needs.{needs}
-use Rattle.checks.proofs.release_fault.Statement.{statement}
-use Rattle.checks.proofs.release_fault.Tie as tie
+use Rattle.lowest.proofs.release_fault.Statement.{statement}
+use Rattle.lowest.proofs.release_fault.Tie as tie
 
 -- ---- what was asked, and what was read, where the tests before the last were made
 abbrev start : tie.After-both2 → tie.Start

@@ -1,14 +1,14 @@
--- `checks::absences_fault` meets its contract.
+-- `lowest::absences_fault` meets its contract.
 use Prim.Native.Nat.{_-_, _≤_, _<_}
 use mathlib.Core.Path.{_≡_, ap, ap₂, sym, _∙_}
 use native.Mathlib.Omega.{arith}
 use Rattle.rules.specs.Case.{taskCount}
 use Rattle.rules.specs.Refusals.{orNext, firstOf}
 use Rattle.legal.specs.Firsts.{none-yet, first-more}
-use Rattle.checks.specs.Needs.{unkeptFault}
+use Rattle.lowest.specs.Needs.{unkeptFault}
 use borrow.Author.Needs.{needs}
-use Rattle.checks.proofs.absences_fault.Statement.{statement}
-use Rattle.checks.proofs.absences_fault.Tie as tie
+use Rattle.lowest.proofs.absences_fault.Statement.{statement}
+use Rattle.lowest.proofs.absences_fault.Tie as tie
 
 abbrev Inv-loop : tie.InvT-loop
 Inv-loop table last tasks found₀ k₀ found k = (k ≤ tasks) × (found ≡ firstOf (unkeptFault last) k)
