@@ -1,10 +1,12 @@
-"""docs/STATEMENTS.md names only what is there.
+"""docs/STATEMENTS.md and the other pages name only what is there.
 
 The page's tables are read by their columns.  A name of a column such as
 "Said by" is declared in a file of its row: a function of the code, a type, a
 definition or a theorem.  A proof, an edit and a test that the page names
 exist.  A public call has no `requires`, its contract is the one promise that
 the page gives for it, and the law that only one answer fits is about that.
+In the other pages a path exists, and what is said to stand in it is declared
+there; the landings' notes speak of the tree of their day.
 """
 
 import glob
@@ -14,6 +16,7 @@ import unittest
 
 ROOT = os.path.dirname(os.path.dirname(os.path.abspath(__file__)))
 PAGE = os.path.join(ROOT, "docs", "STATEMENTS.md")
+OTHER_PAGES = ("README.md", "CONTRIBUTING.md", "docs/DECISIONS.md", "docs/READING.md")
 
 # Columns of names that are declared in the files of the row's column "File".
 DECLARED = ("Said by", "Function or type", "Call")
@@ -203,6 +206,44 @@ class Statements(unittest.TestCase):
                     self.assertIn(edit["old"].strip(), source)
 
 
+def paths_in(page):
+    """The paths from the root that a page has in backticks; one of `Pn` stands for those of every request."""
+    found = re.findall(r"`((?:crates|docs|tests|bench|bin|examples)/[\w./-]+)`", page)
+    return [path for path in found if not re.search(r"\bPn\b", path)]
+
+
+def places_in(page):
+    """Each name that a page has beside the path where it stands, as in: `a`, `b` and `c` in `crates/d`."""
+    found = re.findall(rf"((?:`{LETTER}+`(?:,| and)?\s+)+)in\s+`((?:crates|tests)/[\w./-]+)`", page)
+    return [(name, path) for names, path in found for name in re.findall(r"`([^`]+)`", names)]
+
+
+def sources_of(path):
+    """A file, or all sources of a crate."""
+    if not os.path.isdir(os.path.join(ROOT, path)):
+        return [path]
+    found = glob.glob(os.path.join(ROOT, path, "**", "*"), recursive=True)
+    return [file for file in found if file.endswith((".rt", ".antt"))]
+
+
+class OtherPages(unittest.TestCase):
+
+    def test_every_path_is_there(self):
+        for page in OTHER_PAGES:
+            found = paths_in(text_of(page))
+            self.assertTrue(found, page)
+            for path in found:
+                with self.subTest(page=page, path=path):
+                    self.assertTrue(exists(path))
+
+    def test_every_name_is_declared_where_the_page_has_it(self):
+        found = [(page, *place) for page in OTHER_PAGES for place in places_in(text_of(page))]
+        self.assertGreater(len(found), 20)
+        for page, name, path in found:
+            with self.subTest(page=page, name=name, path=path):
+                self.assertTrue(exists(path) and any(declares(source, name) for source in sources_of(path)))
+
+
 class PublicCalls(unittest.TestCase):
 
     def calls(self):
@@ -289,6 +330,12 @@ class TheChecks(unittest.TestCase):
         self.assertFalse(declares("crates/counts/src/lib.rt", "CountsPromise"))
         self.assertTrue(declares("crates/rules/src/lib.rt", "Demoted"))
         self.assertFalse(declares("crates/theory/specs/Demand3.antt", "free-slot"))
+
+    def test_names_and_paths_of_a_page_are_found(self):
+        page = "`..` `a`, `b-c` and `d` in\n`crates/e/src`, `docs/landings/Pn.md`, `f` of `bench/run`"
+        self.assertEqual(paths_in(page), ["crates/e/src", "bench/run"])
+        self.assertEqual(places_in(page), [(name, "crates/e/src") for name in ("a", "b-c", "d")])
+        self.assertIn("counts", [name for path in sources_of("crates/counts") for name in ("counts", "none") if declares(path, name)])
 
     def test_a_contract_ends_where_the_body_starts(self):
         contract = contract_of("crates/counts/src/lib.rt", "counts")
