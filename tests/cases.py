@@ -206,6 +206,33 @@ def legal_case(rng, size=None):
     return Case(procs, policy, table, end, flat(releases))
 
 
+def rivals_execution(rng, free, D, largest):
+    return free - rng.choice([0, 0, 1]) if D == largest else D
+
+
+def rivals_case(rng):
+    """A job that is demoted at its release, has a processor for a slot or two, and then meets rivals that fill them all.
+
+    One of the rivals is due about when that job is, so that who waits shows
+    whether it is still demoted.
+    """
+    procs = rng.randint(2, 5)
+    longest = rng.randint(4, 10)
+    later = rng.randint(1, 2)
+    T = longest + rng.randint(0, 3)
+    deadlines = [longest, longest - later + rng.choice([0, 0, 1])]
+    deadlines += [rng.randint(1, 2) for _ in range(procs - 1)]
+    if rng.random() < 0.3:
+        rng.shuffle(deadlines)
+    table = table_of(rng, procs, [(T, D) for D in deadlines], rivals_execution)
+    end = rng.randint(later + 1, 3 * T)
+    releases = []
+    for number, D in enumerate(deadlines, start=1):
+        first = 0 if D == longest else later
+        releases += [(time, number) for time in range(first, end, T)]
+    return Case(procs, rng.choice([0, 1, 1, 1]), table, end, flat(sorted(releases)))
+
+
 def full_case(rng, policy=None):
     """The most of everything: 32 tasks, 2,000 releases, end 100,000."""
     procs = rng.choice([1, 8, 15, 31, 32])
@@ -236,7 +263,7 @@ def longest_text_case():
 def legal_cases(seed, count):
     rng = random.Random(f"legal {seed}")
     for _ in range(count):
-        yield legal_case(rng)
+        yield rivals_case(rng) if rng.random() < 0.1 else legal_case(rng)
 
 
 def large_cases(seed, count):

@@ -67,8 +67,12 @@ def dense_case(rng):
 
 
 def some_case(rng):
-    """Mostly dense; else of the small sizes of cases.py."""
-    return dense_case(rng) if rng.random() < 0.9 else cases.legal_case(rng, rng.choice(["tiny", "small"]))
+    """Mostly dense; else of the small sizes of cases.py, or one of its demoted jobs with rivals."""
+    def small_case(rng):
+        return cases.legal_case(rng, rng.choice(["tiny", "small"]))
+
+    make = rng.choices([dense_case, small_case, cases.rivals_case], [8, 1, 1])[0]
+    return make(rng)
 
 
 class Vendor(replay.Run):

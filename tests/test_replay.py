@@ -1281,12 +1281,26 @@ class NormalAgain(replay.LogRun):
                 job.demoted, job.free = False, 0
 
 
-class ErrorsThatLookRight(Checks):
-    """For each error of document 01 and of request P3, a small case that tells it.
+ERRORS = [OpenCountedAsMet, DeadlineTestedBeforeItsSlot, DeadlineTestedBeforeItsSlotInStepOne, FreeCountLoweredAtOneMore,
+          CountedBeforeReleases, CountedBeforeReleasesThroughout, DemotedKeepsItsPlace, DemotedFirst, OwnAvailabilityLeftOut,
+          DividedByM, DemotedOnlyWhereEqual, DemotedWhereStrictlyLarger, ComparedWithC, NormalAgain]
 
-    Each test holds the right answer, worked out by hand, and the answer that
-    the error gives.
+
+class ErrorsThatLookRight(Checks):
+    """For each error of document 01 and of request P3, a small case that tells it, and more than ten random ones.
+
+    Each test of a small case holds the right answer, worked out by hand, and
+    the answer that the error gives.
     """
+
+    def test_each_is_told_by_the_cases(self):
+        found = list(cases.legal_cases("errors", 1_000))
+        right = [replay.Run(*case).play_whole() for case in found]
+        told = {error.__name__: sum(error(*case).play_whole() != records for case, records in zip(found, right))
+                for error in ERRORS}
+        print(f"errors that look right, each told by so many of {len(found)} cases:", told)
+        for name, count in told.items():
+            self.assertGreater(count, 10, name)
 
     def told(self, error, case, right, wrong):
         self.assertNotEqual(right, wrong)
