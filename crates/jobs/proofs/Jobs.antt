@@ -1,6 +1,6 @@
--- What a job has, read off its kind.
+-- What a job has, read off its kind, and a test that is asked only under another.
 use mathlib.Core.Path.{_≡_, refl}
-use mathlib.Core.Bool.{true, false, _&&_}
+use mathlib.Core.Bool.{Bool, true, false, _&&_}
 use Prim.Native.Nat.{ℕ, _-_, _<_}
 use borrow.Author.Tests.{leb-false}
 use Rattle.rules.specs.Slot.{freeOf, leftOf, demotes, isDemotedNow, lastUnit, workedJob}
@@ -12,6 +12,13 @@ pub demoted-now-as : (j : Job) → isDemotedNow j ≡ (isNormal j && demotes (fr
 demoted-now-as Idle = refl
 demoted-now-as (Normal l f d) = refl
 demoted-now-as (Demoted l d) = refl
+
+-- ---- a test that is asked only where another holds: what it says then, and false elsewhere
+pub asked : (p x r : Bool) → p ≡ true → r ≡ x → r ≡ (p && x)
+asked p x r e h = rw (e, h)
+
+pub unasked : (p x : Bool) → p ≡ false → false ≡ (p && x)
+unasked p x e = rw e
 
 -- ---- step 6 of a job whose next unit is its last, and of one with more
 pub worked-last : (j : Job) → lastUnit (leftOf j) ≡ true → workedJob j ≡ Idle
