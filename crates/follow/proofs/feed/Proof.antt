@@ -193,11 +193,10 @@ idle-here c n =
     (members (h .before .before .line-end .last .1 .0))
     (opened-whole (caseIn l) (l .loop .lines) (l .loop .run) (j .if4 .run) (j .if4 .next) (j .if4 .jobs) (known (j .before .before) .0) o)
     (o .counted)
-    (none (j .if4 .jobs)
-    (rw (eq-eqb (c .before .before .slot-number .result) 0 n) at (sym (c .before .is-worked .ensures) ∙ c .if5 .left)))
+    (none (c .before .before .slot-number .result) (j .if4 .jobs) n (sym (c .before .is-worked .ensures) ∙ c .if5 .left))
   where
-    none : (jobs : ℕ) → not (eqb jobs 0) ≡ false → jobs ≡ 0
-    none jobs e = eqb-true jobs 0 (not-left (eqb jobs 0) e)
+    none : (number jobs : ℕ) → number ≡ 0 → (eqb number 0 && not (eqb jobs 0)) ≡ false → jobs ≡ 0
+    none number jobs n e = eqb-true jobs 0 (not-left (eqb jobs 0) (rw (eq-eqb number 0 n) at e))
 
 -- ---- the end of the line, with a slot that works, with one that does not, and with none
 closed-here : (c : tie.Joined3 Inv-loop μ-loop) →

@@ -8,7 +8,7 @@ add-result : tie.Need-add-result
 add-result c = search needs
 
 returns : tie.Need-returns
-returns c = rw (c .if1 .taken, add-one)
+returns c = rw (c .if1 .taken) (add-one _)
 
 returns-2 : tie.Need-returns-2
 returns-2 c = search needs
