@@ -1,5 +1,6 @@
 -- `wishes::alone` meets its contract: past a test that fails, the word asks what the rest of the row gives it.
 use mathlib.Core.Path.{_≡_, sym, _∙_}
+use mathlib.Core.Bool.{Bool, false}
 use mathlib.Core.List.{List}
 use Prim.Native.Nat.{ℕ}
 use Rattle.rules.specs.Words.{pick}
@@ -29,32 +30,35 @@ abbrev second : List ℕ → Wish
 second w = pick (same w (words "write")) Write (third w)
 
 -- ---- past each test
+past : (test : Bool) (found rest : Wish) → test ≡ false → pick test found rest ≡ rest
+past test found rest e = rw e
+
 abbrev word : tie.Else1 → List ℕ
 word c = c .before .before .before .before .args .word .now
 
 past-first : (c : tie.Else1) → wordAsks (word c) ≡ second (word c)
 unfolding wordAsks words signBytes
-past-first c = rw (sym (c .before .same-bytes .ensures) ∙ c .if1 .left)
+past-first c = past _ _ _ (sym (c .before .same-bytes .ensures) ∙ c .if1 .left)
 
 past-second : (c : tie.Else2) → wordAsks (word (c .before .before .before)) ≡ third (word (c .before .before .before))
 unfolding words signBytes
-past-second c = past-first (c .before .before .before) ∙ rw (sym (c .before .same-bytes2 .ensures) ∙ c .if2 .left)
+past-second c = past-first (c .before .before .before) ∙ past _ _ _ (sym (c .before .same-bytes2 .ensures) ∙ c .if2 .left)
 
 past-third : (c : tie.Else3) → wordAsks (word (c .before .before .before .before .before .before))
     ≡ fourth (word (c .before .before .before .before .before .before))
 unfolding words signBytes
-past-third c = past-second (c .before .before .before) ∙ rw (sym (c .before .same-bytes3 .ensures) ∙ c .if3 .left)
+past-third c = past-second (c .before .before .before) ∙ past _ _ _ (sym (c .before .same-bytes3 .ensures) ∙ c .if3 .left)
 
 past-fourth : (c : tie.Else4) → wordAsks (word (c .before .before .before .before .before .before .before .before .before))
     ≡ fifth (word (c .before .before .before .before .before .before .before .before .before))
 unfolding words signBytes
-past-fourth c = past-third (c .before .before .before) ∙ rw (sym (c .before .same-bytes4 .ensures) ∙ c .if4 .left)
+past-fourth c = past-third (c .before .before .before) ∙ past _ _ _ (sym (c .before .same-bytes4 .ensures) ∙ c .if4 .left)
 
 past-fifth : (c : tie.Else5)
     → wordAsks (word (c .before .before .before .before .before .before .before .before .before .before .before .before))
     ≡ sixth (word (c .before .before .before .before .before .before .before .before .before .before .before .before))
 unfolding words signBytes
-past-fifth c = past-fourth (c .before .before .before) ∙ rw (sym (c .before .same-bytes5 .ensures) ∙ c .if5 .left)
+past-fifth c = past-fourth (c .before .before .before) ∙ past _ _ _ (sym (c .before .same-bytes5 .ensures) ∙ c .if5 .left)
 
 -- ---- the tests, and what is returned where one holds
 slice-aggregate-same-bytes : tie.Need-slice-aggregate-same-bytes
@@ -119,7 +123,7 @@ returns-6 c = sym (past-fifth (c .before .before .before) ∙ rw (sym (c .before
 
 returns-7 : tie.Need-returns-7
 unfolding words signBytes
-returns-7 c = sym (past-fifth (c .before .before .before) ∙ rw (sym (c .before .same-bytes6 .ensures) ∙ c .if6 .left))
+returns-7 c = sym (past-fifth (c .before .before .before) ∙ past _ _ _ (sym (c .before .same-bytes6 .ensures) ∙ c .if6 .left))
 
 pub alone-spec : {M : Type 1} → statement M
 alone-spec =
