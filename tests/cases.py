@@ -95,8 +95,8 @@ def table_of(rng, procs, shape, execution):
     """A legal table, with execution times placed about the free counts.
 
     A free count rests on T and D alone, so C can be chosen beside it: equal to
-    it or below (demoted at once), a little above (demoted later), or far above
-    (never).
+    it or below (demoted at once), a little above (often demoted later), or far
+    above (seldom demoted).
     """
     known = [replay.Task(T, 1, D) for T, D in shape]
     largest = max(task.D for task in known)
@@ -211,10 +211,11 @@ def rivals_execution(rng, free, D, largest):
 
 
 def rivals_case(rng):
-    """A job that is demoted at its release, has a processor for a slot or two, and then meets rivals that fill them all.
+    """A job that has a processor for a slot or two, and then meets rivals that fill them all.
 
-    One of the rivals is due about when that job is, so that who waits shows
-    whether it is still demoted.
+    Its execution is its free count or one below, where that is 1 or more, so
+    that EDF-CF demotes it at its release.  One of the rivals is due about when
+    it is: who waits shows whether it is still demoted.
     """
     procs = rng.randint(2, 5)
     longest = rng.randint(4, 10)

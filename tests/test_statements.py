@@ -335,7 +335,11 @@ class TheChecks(unittest.TestCase):
         page = "`..` `a`, `b-c` and `d` in\n`crates/e/src`, `docs/landings/Pn.md`, `f` of `bench/run`"
         self.assertEqual(paths_in(page), ["crates/e/src", "bench/run"])
         self.assertEqual(places_in(page), [(name, "crates/e/src") for name in ("a", "b-c", "d")])
-        self.assertIn("counts", [name for path in sources_of("crates/counts") for name in ("counts", "none") if declares(path, name)])
+
+    def test_a_name_of_a_crate_is_declared_in_one_of_its_sources(self):
+        sources = sources_of("crates/counts")
+        self.assertTrue(any(declares(path, "counts") for path in sources))
+        self.assertFalse(any(declares(path, "caseFault") for path in sources))
 
     def test_a_contract_ends_where_the_body_starts(self):
         contract = contract_of("crates/counts/src/lib.rt", "counts")

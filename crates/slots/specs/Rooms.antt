@@ -1,5 +1,5 @@
--- The records of a case in the lent room at a time (`roomAt` of Walks): the room of one time is the room of any other, and before the first
--- slot every record is open. For the loop over the slots, and for whoever begins it.
+-- The records of a case in the lent room at a time (`roomAt` of Walks): those of one time go where those of another stood, and before the
+-- first slot every record is open. For the loop over the slots, and for whoever begins it.
 use mathlib.Core.Path.{_≡_, ap, sym, _∙_}
 use mathlib.Core.Bool.{false}
 use mathlib.Core.List.{List, _++_}
