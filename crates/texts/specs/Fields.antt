@@ -164,10 +164,16 @@ unfolding has
 without-append x [] t p q = q
 without-append x (b ∷ s) t p q = let w = without-head x b s p in rw (w .0, without-append x s t (w .1) q)
 
-pub parted-no-newline : (f : List ℕ) (fs : List (List ℕ)) → Plain f → All Plain fs → has newlineByte (parted f fs) ≡ false
+-- a byte that is no tab and stands in no field does not stand between them
+parted-without : (x : ℕ) → eqb tabByte x ≡ false → ((f : List ℕ) → Plain f → has x f ≡ false)
+    → (f : List ℕ) (fs : List (List ℕ)) → Plain f → All Plain fs → has x (parted f fs) ≡ false
 unfolding parted All has
-parted-no-newline f [] p ps = p .no-newline
-parted-no-newline f (g ∷ gs) p ps = without-append newlineByte f _ (p .no-newline) (parted-no-newline g gs (ps .0) (ps .1))
+parted-without x e none f [] p ps = none f p
+parted-without x e none f (g ∷ gs) p ps =
+    without-append x f _ (none f p) (rw e (parted-without x e none g gs (ps .0) (ps .1)))
+
+pub parted-no-newline : (f : List ℕ) (fs : List (List ℕ)) → Plain f → All Plain fs → has newlineByte (parted f fs) ≡ false
+parted-no-newline = parted-without newlineByte refl (λ f p. p .no-newline)
 
 parted-some : (f : List ℕ) (fs : List (List ℕ)) → 1 ≤ length f → 1 ≤ length (parted f fs)
 unfolding parted
