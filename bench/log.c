@@ -1,6 +1,6 @@
 /*
- * A plain check of a slot log by request P2 in C, to measure Thrumcomb against: the checks on numbers of replay.c, then one pass over the
- * log, in which what works in each slot is what the log names.
+ * A plain check of a slot log by requests P2 and P4 in C, to measure Thrumcomb against: the checks on numbers of replay.c, then one pass
+ * over the log, in which what works in each slot is what the log names.
  *
  * With LOG_MAIN defined there is a program too. It reads calls from standard input until that ends, each as decimals parted by white space
  * and then, behind one more byte, the log itself:
@@ -74,7 +74,7 @@ static enum form read_line(const uint8_t *log, size_t length, size_t *at, uint32
     *set = 0;
     if (field(log, length, at) != (long)time)
         return BAD;
-    while (*at < length && log[*at] != '\n') {
+    while (*at < length && log[*at] != '\n' && log[*at] != '\r') {
         long task = field(log, length, at);
 
         if (task <= before)
@@ -85,7 +85,10 @@ static enum form read_line(const uint8_t *log, size_t length, size_t *at, uint32
         else
             *set |= 1u << (task - 1);
     }
-    if (*at == length)
+    /* one return may stand before the newline */
+    if (*at < length && log[*at] == '\r')
+        (*at)++;
+    if (*at == length || log[*at] != '\n')
         return BAD;
     (*at)++;
     return form;

@@ -35,6 +35,17 @@ static int word(const uint8_t *text, size_t *at, size_t end, const char *w)
     return 1;
 }
 
+/* The newline, with or without one return before it. */
+static int newline(const uint8_t *text, size_t *at, size_t end)
+{
+    if (*at < end && text[*at] == '\r')
+        (*at)++;
+    if (*at >= end || text[*at] != '\n')
+        return 0;
+    (*at)++;
+    return 1;
+}
+
 /* `count` numbers, each behind one tab, and the newline. */
 static int numbers(const uint8_t *text, size_t *at, size_t end, int count, uint32_t *to)
 {
@@ -51,10 +62,7 @@ static int numbers(const uint8_t *text, size_t *at, size_t end, int count, uint3
             return 0;
         to[k] = (uint32_t)value;
     }
-    if (*at >= end || text[*at] != '\n')
-        return 0;
-    (*at)++;
-    return 1;
+    return newline(text, at, end);
 }
 
 /* Reads a text; gives 0, or the number of a refusal and its place. */
@@ -93,10 +101,14 @@ int read_text(const uint8_t *text, size_t length, struct read_case *c, uint32_t 
             if (!numbers(text, &at, length, 1, &c->procs))
                 return 2;
             kind = 1;
-        } else if (word(text, &at, length, "policy\tedf-cf\n")) {
+        } else if (word(text, &at, length, "policy\tedf-cf")) {
+            if (!newline(text, &at, length))
+                return 2;
             c->policy = 1;
             kind = 2;
-        } else if (word(text, &at, length, "policy\tedf\n")) {
+        } else if (word(text, &at, length, "policy\tedf")) {
+            if (!newline(text, &at, length))
+                return 2;
             kind = 2;
         } else if (word(text, &at, length, "end")) {
             if (!numbers(text, &at, length, 1, &c->end))

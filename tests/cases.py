@@ -675,6 +675,24 @@ def text_of(case, with_policy=True):
     return joined(lines_of(case, with_policy))
 
 
+def with_returns(rng, data):
+    """The data with a return before each newline that has none, or before some of those."""
+    share = rng.choice([1, 1, 0.5, 0.1])
+    *lines, rest = data.split(b"\n")
+    ends = [b"\r\n" if rng.random() < share and not line.endswith(b"\r") else b"\n" for line in lines]
+    return b"".join(line + end for line, end in zip(lines, ends)) + rest
+
+
+def without_returns(data):
+    """One return before a newline goes."""
+    return data.replace(b"\r\n", b"\n")
+
+
+def perhaps_returned(rng, data):
+    """Some of all data come from a desktop that puts returns before newlines: what they say is the same."""
+    return with_returns(rng, data) if rng.random() < 0.25 else data
+
+
 TEXT_MOST = 999_999_999
 
 
@@ -720,7 +738,14 @@ def badly_formed(rng, line):
         word + b"\t",
         line + b"\t",
         line + b" ",
-        line + b"\r",
+        line + b"\r\r",
+        line + b"\r ",
+        line + b"\r\t0",
+        b"\r",
+        b"\r" + line,
+        word + b"\r" + line[len(word):],
+        with_field(b"\r" + field),
+        with_field(field[:1] + b"\r" + field[1:] + b"0"),
         line + b"\0",
         line + b"\t0",
         b" " + line,
@@ -780,29 +805,37 @@ def text_too_long(rng):
     lines = some_lines(rng)
     length = rng.choice([60_001, 60_001, 60_002, 65_536, 120_000])
     data = joined(lines)
-    filler = rng.choice([b"release\t0\t1\n", b"\n", b"\0", b"x", b"1"])
-    data += filler * (length // len(filler))
+    filler = rng.choice([b"release\t0\t1\n", b"release\t0\t1\r\n", b"\n", b"\r\n", b"\r", b"\0", b"x", b"1"])
+    data += filler * (length // len(filler) + 1)
     return data[:length], 1, 0
 
 
-def release_lines(length):
-    """Well formed release lines of just that many bytes, 24 or more.
+def text_too_long_by_its_returns(rng):
+    """Well formed, and without its returns far from too long."""
+    length = rng.choice([60_001, 60_002])
+    data = joined([b"procs\t1", b"task\t1\t1\t1", b"end\t100000"])
+    return data + release_lines(length - len(data), b"\r\n"), 1, 0
 
-    The shortest line has 12 bytes and one digit for its time; what is left
-    over goes into the times of the first two lines.
+
+def release_lines(length, end=b"\n"):
+    """Well formed release lines of just that many bytes, 26 or more, each with that end.
+
+    The shortest line has 12 or 13 bytes and one digit for its time; what is
+    left over goes into the times of the first two lines.
     """
-    count, over = divmod(length, len(b"release\t0\t1\n"))
+    count, over = divmod(length, len(b"release\t0\t1" + end))
     first = min(over, 8)
     lines = [b"release\t" + b"1" * (1 + digits) + b"\t1"
              for digits in (first, over - first)]
-    return joined(lines + [b"release\t0\t1"] * (count - 2))
+    return b"".join(line + end for line in lines + [b"release\t0\t1"] * (count - 2))
 
 
 def text_of_most_bytes(rng):
     """Well formed and just 59,999 or 60,000 bytes: only the releases fault."""
     length = rng.choice([59_999, 60_000])
     data = joined([b"procs\t1", b"task\t1\t1\t1", b"end\t100000"])
-    return data + release_lines(length - len(data)), 12, 0
+    end = rng.choice([b"\n", b"\r\n"])
+    return data + release_lines(length - len(data), end), 12, 0
 
 
 def text_of_most_bytes_bad(rng):
@@ -810,7 +843,7 @@ def text_of_most_bytes_bad(rng):
     lines = some_lines(rng)
     data = joined(lines)
     length = rng.choice([59_999, 60_000])
-    data += rng.choice([b"\n", b"\0", b"x", b"1"]) * (length - len(data))
+    data += rng.choice([b"\n", b"\r", b"\0", b"x", b"1"]) * (length - len(data))
     return data, 2, len(lines) + 1
 
 
@@ -832,6 +865,12 @@ def text_without_last_newline(rng):
     last = lines[place - 1]
     if rng.random() < 0.3:
         last = last[:rng.randint(1, len(last))]
+    # A return is no newline, behind the line and alone.
+    way = rng.randrange(6)
+    if way == 0:
+        last += b"\r"
+    if way == 1:
+        return joined(lines) + b"\r", 2, len(lines) + 1
     return joined(lines[:place - 1]) + last, 2, place
 
 
@@ -979,7 +1018,7 @@ def text_damaged(rng):
 
 def text_of_bytes(rng):
     """Bytes drawn from those that texts are made of, or from all."""
-    pieces = LINE_WORDS + [b"\t", b"\n", b"0", b"1", b"edf", b"edf-cf", b" "]
+    pieces = LINE_WORDS + [b"\t", b"\n", b"\r\n", b"\r", b"0", b"1", b"edf", b"edf-cf", b" "]
     if rng.random() < 0.5:
         data = b"".join(rng.choice(pieces) for _ in range(rng.randrange(30)))
     else:
@@ -992,10 +1031,17 @@ def text_legal(rng, with_policy):
     return text_of(case, with_policy), 0, 0
 
 
+def text_with_returns(rng):
+    data, number, place = text_legal(rng, rng.random() < 0.5)
+    return with_returns(rng, data), number, place
+
+
 TEXT_KINDS = {
     "legal": lambda rng: text_legal(rng, True),
     "legal without policy": lambda rng: text_legal(rng, False),
+    "legal with returns": text_with_returns,
     "too long": text_too_long,
+    "too long by its returns": text_too_long_by_its_returns,
     "most bytes": text_of_most_bytes,
     "most bytes, badly formed": text_of_most_bytes_bad,
     "badly formed": text_badly_formed,
@@ -1014,19 +1060,27 @@ TEXT_ROUND = list(TEXT_KINDS) + (["badly formed"] * 6 + ["out of order"] * 4
                                  + ["damaged"] * 8 + ["bytes"] * 2)
 
 # The long texts take the most time; these kinds come once in a few rounds.
-LONG_TEXTS = {"too long", "most bytes", "most bytes, badly formed",
-              "numbers, 12"}
+LONG_TEXTS = {"too long", "too long by its returns", "most bytes",
+              "most bytes, badly formed", "numbers, 12"}
+
+
+def text_made(rng, kind):
+    """A text of a kind, with its aim; returns would make a text of nearly the most bytes too long."""
+    data, number, place = TEXT_KINDS[kind](rng)
+    if kind not in LONG_TEXTS:
+        data = perhaps_returned(rng, data)
+    return data, number, place
 
 
 def text_of_kind(rng, kind):
     if kind == "short room":
         source = rng.choice([name for name in TEXT_KINDS if name != kind])
-        data, _, _ = TEXT_KINDS[source](rng)
+        data, _, _ = text_made(rng, source)
         lengths = rng.choice([(95, 4_000), (96, 3_999), (95, 3_999), (0, 0),
                               (0, 4_000), (96, 0), (95, 5_000), (200, 3_999)])
         number, place = 13, 0
     else:
-        data, number, place = TEXT_KINDS[kind](rng)
+        data, number, place = text_made(rng, kind)
         lengths = rng.choice([(96, 4_000), (96, 4_000), (97, 4_001),
                               (120, 4_000), (96, 4_100)])
     return Text(kind, data, some_room(rng, lengths[0]),

@@ -1,4 +1,4 @@
-"""Slot logs for request P2: good ones, and ones with each kind of damage.
+"""Slot logs for requests P2 and P4: good ones, and ones with each kind of damage.
 
   logs(seed, count)   logs of each kind in turn, each with its case and the
                       answer that it aims at where that is known
@@ -171,13 +171,13 @@ def other_word(rng, line):
 
 
 def odd_end(rng, line):
-    return line + rng.choice([b"\t", b"\r", b" ", b"\0", b"\t\t", b"\t ", b"\t0x", b"\t\r", b",", b"\v", b"-"])
+    return line + rng.choice([b"\t", b"\r\r", b"\r0", b"\r ", b"\r\t", b" ", b"\0", b"\t\t", b"\t ", b"\t0x", b"\t\r", b",", b"\v", b"-"])
 
 
 def odd_gap(rng, line):
     at = rng.choice([i for i, byte in enumerate(line) if byte == 9])
     # Without any gap two tasks would be another one.
-    gaps = [b"\t\t", b" ", b"\t ", b" \t", b"\0", b"\v", b"" if at == len(b"slot") else b"\t\t\t"]
+    gaps = [b"\t\t", b" ", b"\t ", b" \t", b"\r\t", b"\t\r", b"\0", b"\v", b"" if at == len(b"slot") else b"\t\t\t"]
     return line[:at] + rng.choice(gaps) + line[at + 1:]
 
 
@@ -188,7 +188,7 @@ def odd_number(rng, line):
 
 
 def cut_short(rng, line):
-    return rng.choice([b"", b"\t", b"slot", b"slot\t", line[:rng.randrange(len(b"slot\t") + 1)]])
+    return rng.choice([b"", b"\r", b"\t", b"slot", b"slot\t", b"\r" + line, line[:rng.randrange(len(b"slot\t") + 1)]])
 
 
 def names_of(line):
@@ -353,7 +353,11 @@ def without_newline(rng):
     cut = places[place - 1]
     if rng.random() < 0.3:
         cut = rng.randint(places[place - 2] + 2 if place > 1 else 1, cut)
-    return case, data[:cut], 17, place
+    # A return is no newline, behind the line and alone.
+    way = rng.randrange(6)
+    if way == 0:
+        return case, data + b"\r", 17, len(places) + 1
+    return case, data[:cut] + (b"\r" if way == 1 else b""), 17, place
 
 
 def broken_set(rng, breaker):
@@ -470,7 +474,7 @@ def damaged(rng):
 
 def of_bytes(rng):
     case = dense_case(rng)
-    pieces = [b"slot", b"slot\t0", b"\t", b"\t1", b"\t2", b"\n", b"\n", b"0", b"1"]
+    pieces = [b"slot", b"slot\t0", b"\t", b"\t1", b"\t2", b"\n", b"\n", b"\r\n", b"\r", b"0", b"1"]
     if rng.random() < 0.5:
         data = b"".join(rng.choice(pieces) for _ in range(rng.randrange(20)))
     else:
@@ -515,10 +519,10 @@ ROUND = list(KINDS) + ["ties at random"] * 3 + ["careless"] * 8 + ["turned back"
 def log_of_kind(rng, kind, turn):
     if kind == "case at fault":
         numbers = list(cases.CASE_BREAKERS)
-        made = case_at_fault(rng, numbers[turn % len(numbers)])
+        case, data, number, place = case_at_fault(rng, numbers[turn % len(numbers)])
     else:
-        made = KINDS[kind](rng)
-    return Log(kind, *made)
+        case, data, number, place = KINDS[kind](rng)
+    return Log(kind, case, cases.perhaps_returned(rng, data), number, place)
 
 
 def logs(seed, count):
@@ -530,9 +534,9 @@ def logs(seed, count):
 
 
 # ---------------------------------------------------------------------------
-# Worked by hand from request P2: what, the case, the log (shown with blanks
-# for tabs, strokes for newlines and _ for blanks), number and place, and what
-# is said of the slot.
+# Worked by hand from requests P2 and P4: what, the case, the log (shown with
+# blanks for tabs, strokes for newlines and _ for blanks), number and place,
+# and what is said of the slot.
 
 SET_A = [10, 1, 4, 10, 1, 1, 10, 5, 5]
 ALL_AT_0 = [0, 1, 0, 2, 0, 3]
@@ -575,6 +579,10 @@ def due(*deadlines):
 
 def of_accepted():
     yield "our own", A, LOG_A
+    yield "returns in all lines", A, LOG_A.replace("|", "\r|")
+    yield "a return in the first line", A, LOG_A.replace("|", "\r|", 1)
+    yield "a return in the last line", A, LOG_A[:-1] + "\r|"
+    yield "returns in slots in which nobody runs", A, HEAD_A + IDLE_A.replace("|", "\r|")
     yield "our own under EDF", A_EDF, "slot 0 1 2|slot 1 3|slot 2 3|slot 3 3|slot 4 3|" + IDLE_A
     for ran in ("1122", "2211", "1212", "2121", "1221", "2112"):
         yield "a tie " + ran, TWO, "".join(f"slot {t} {task}|" for t, task in enumerate(ran))
@@ -593,10 +601,11 @@ def of_accepted():
 
 BAD_LINES = [
     "", " ", "slot", "slot ", "slot 0 2 3 ", " slot 0 2 3", "slot  0 2 3", "slot 0  2 3", "slots 0 2 3", "Slot 0 2 3", "running 0 2 3",
-    "slot0 2 3", "slot_0 2 3", "slot 0 2_3", "slot 0 2 3_", "slot 0 2 3\r", "slot 0 2,3", "slot 0 2 x", "slot 0 2 3\0", "slot 00 2 3",
+    "slot0 2 3", "slot_0 2 3", "slot 0 2_3", "slot 0 2 3_", "slot 0 2,3", "slot 0 2 x", "slot 0 2 3\0", "slot 00 2 3",
     "slot 0 02 3", "slot 0 2 03", "slot -0 2 3", "slot 0 +2 3", "slot 0 2 3 0000000033", "slot 0 2 1000000000", "slot 0 2 3 4294967299",
     "slot 0 3 2", "slot 0 2 2", "slot 0 2 3 3", "slot 0 2 3 1", "slot 0 0 0", "slot 0 33 0", "slot 1 2 3", "slot 10 2 3",
-    "slot 999999999 2 3"]
+    "slot 999999999 2 3", "\r", "slot\r", "slot \r", "slot 0 2 3\r\r", "slot 0 2 3\r\r\r", "slot 0 2 3\r3", "slot 0 2 3\r ", "slot 0 2\r 3",
+    "slot 0\r 2 3", "slot 0 \r2 3", "slot 0 2 \r3", "slot\r 0 2 3", "\rslot 0 2 3", "s\rlot 0 2 3", "slot 0 2 3 \r"]
 
 
 def of_17():
@@ -612,7 +621,12 @@ def of_17():
     yield "a bad line behind one too many", A, LOG_A + "slot 10|slot 11 2 1|", 12
     yield "a cut line behind the end", A, LOG_A + "slot 10", 11
     yield "a wrong time behind the end", A, LOG_A + "slot 11|", 11
-    yield "returns", A, LOG_A.replace("|", "\r|"), 1
+    yield "two returns in a later line", A, LOG_A.replace("|", "\r|").replace("slot 3 3", "slot 3 3\r"), 4
+    yield "a return for the last newline", A, LOG_A[:-1] + "\r", 10
+    yield "a return behind the last newline", A, LOG_A + "\r", 11
+    yield "a line of a return behind the last", A, LOG_A + "\r|", 11
+    yield "returns for newlines", A, LOG_A.replace("|", "\r"), 1
+    yield "returns behind newlines", A, LOG_A.replace("|", "|\r"), 2
 
 
 def of_18():

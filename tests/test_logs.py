@@ -320,6 +320,27 @@ class TooFewAccepted(replay.LogRun):
         return None if fault == (19, 0) and log.count(b"\n") < self.end else fault
 
 
+class AllReturnsSkipped(replay.LogRun):
+    def fault_of_log(self, log):
+        return super().fault_of_log(log.replace(b"\r", b""))
+
+
+class TwoReturnsDropped(replay.LogRun):
+    def fault_of_line(self, place, line):
+        return super().fault_of_line(place, line.removesuffix(b"\r"))
+
+
+class ReturnDroppedWithoutNewline(replay.LogRun):
+    def fault_of_log(self, log):
+        return super().fault_of_log(log.removesuffix(b"\r"))
+
+
+class ReturnsRefused(replay.LogRun):
+    def fault_of_log(self, log):
+        # A second return in front of each makes a bad line of it.
+        return super().fault_of_log(log.replace(b"\r\n", b"\r\r\n"))
+
+
 class LastNewlineNotAsked(replay.LogRun):
     def fault_of_log(self, log):
         return super().fault_of_log(log if log.endswith(b"\n") or not log else log + b"\n")
@@ -366,7 +387,8 @@ class FreeCountLoweredAlways(replay.LogRun):
 
 WRONG = [FollowsOurReplay, EqualDeadlinesRefused, FewerAccepted, MoreAccepted, DemotedBeforeNormal, KindsForgotten,
          DeadlinesForgottenAmongDemoted, FirstRunningOnly, LowestWaitingOnly, AbsentOverlooked, JudgedPastTheEnd, NoTaskIsBadForm,
-         RuleBeforeRise, NumberOfLinesFirst, TooManyAccepted, TooFewAccepted, LastNewlineNotAsked, AnyBlanks, ZerosInFront,
+         RuleBeforeRise, NumberOfLinesFirst, TooManyAccepted, TooFewAccepted, AllReturnsSkipped, TwoReturnsDropped,
+         ReturnDroppedWithoutNewline, ReturnsRefused, LastNewlineNotAsked, AnyBlanks, ZerosInFront,
          TimeNotTestedPastTheEnd, MissedJobsStay, NeverDemoted, FreeCountKept, FreeCountLoweredAlways,
          test_replay.DemotedOnlyWhereEqual, test_replay.DemotedWhereStrictlyLarger, test_replay.ComparedWithC, test_replay.NormalAgain]
 
@@ -716,7 +738,10 @@ class InPieces(test_program.OfTheProgram):
 
     def test_cut_at_every_byte(self):
         good = "slot 0 2|slot 1 1|slot 2 1|slot 3|"
-        for_all = [good, good.replace("2 1", "2 2"), good.replace("1 1", "1 2 1"), good + "slot 4|", good + "slot 4 1", good[:-1] + " |"]
+        returned = good.replace("|", "\r|")
+        for_all = [good, good.replace("2 1", "2 2"), good.replace("1 1", "1 2 1"), good + "slot 4|", good + "slot 4 1", good[:-1] + " |",
+                   returned, returned.replace("2 1", "2 2"), returned[:-1], returned + "\r", good.replace("1 1", "1 1\r\r"),
+                   good.replace("1 1", "1\r 1")]
         text = cases.text_of(logs.TWO_AND_ONE)
         asked = []
         for log in map(logs.as_bytes, for_all):

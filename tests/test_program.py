@@ -36,6 +36,8 @@ log FILE        whether the slot log in FILE keeps the rules of the case: accept
 -q              leaves out the words on standard error for a refused case or log
 
 A case that breaks a rule, or has a task that is never released, prints refused, number, place.
+Lines of a case and of a slot log end with a newline. One carriage return right before it is left
+out; anywhere else a return is badly formed. What is written has bare newlines.
 A slot log may break equal deadlines either way. In it a number of ten digits or with a leading
 zero is 17, a number that is no task of the table 18.
 The exit status is 0; 2 for a refused case or log; 64 for words that ask for nothing that there

@@ -3,6 +3,7 @@
 import collections
 import re
 import unittest
+import unittest.mock
 
 import cases
 import replay
@@ -695,7 +696,18 @@ TEXT_FAULTS = [
     (b"procs 1\n", 2, 1),
     (b"procs\t1\t\n", 2, 1),
     (b"procs\t1 \n", 2, 1),
-    (b"procs\t1\r\n", 2, 1),
+    (b"procs\t1\r\r\n", 2, 1),
+    (b"procs\t1\r", 2, 1),
+    (b"procs\t1\r \n", 2, 1),
+    (b"procs\r\t1\n", 2, 1),
+    (b"procs\t\r1\n", 2, 1),
+    (b"procs\t1\r2\n", 2, 1),
+    (b"\rprocs\t1\n", 2, 1),
+    (b"\r\n", 2, 1),
+    (b"\r", 2, 1),
+    (b"\r\r\n", 2, 1),
+    (b"procs\r\n", 2, 1),
+    (b"procs\t\r\n", 2, 1),
     (b"procs\t1\0\n", 2, 1),
     (b"procs\t01\n", 2, 1),
     (b"procs\t00\n", 2, 1),
@@ -715,6 +727,10 @@ TEXT_FAULTS = [
     (b"procs\t1\npolicy\tedf-\n", 2, 2),
     (b"procs\t1\npolicy\tedf-cf-\n", 2, 2),
     (b"procs\t1\npolicy\tedf \n", 2, 2),
+    (b"procs\t1\r\npolicy\tedf\r\r\n", 2, 2),
+    (b"procs\t1\r\npolicy\tedf\r-cf\n", 2, 2),
+    (b"procs\t1\n\rpolicy\tedf\n", 2, 2),
+    (b"procs\t1\r\n\r\ntask\t5\t1\t5\r\n", 2, 2),
     (b"procs\t1\npolicy\tedf\tedf\n", 2, 2),
     (b"procs\t1\npolicy\n", 2, 2),
     (b"procs\t1\ntask\t5\t1\n", 2, 2),
@@ -725,10 +741,14 @@ TEXT_FAULTS = [
     (HEAD + b"end\t5", 2, 3),
     (HEAD + b"end\t5\n\n", 2, 4),
     (HEAD + b"end\t5\n\0", 2, 4),
+    (HEAD + b"end\t5\n\r", 2, 4),
+    (HEAD + b"end\t5\r\n\r\n", 2, 4),
     (HEAD + b"end\t5\nrelease\t0\n", 2, 4),
     (HEAD + b"end\t5\nrelease\t0\t1\t\n", 2, 4),
     (HEAD + b"end\t5\nrelease\t0\t1", 2, 4),
+    (HEAD + b"end\t5\nrelease\t0\t1\r", 2, 4),
     (b"\xff" * 60_000, 2, 1),
+    (b"\r" * 60_000, 2, 1),
     # 2 before 3 on one line
     (b"release\t0\n", 2, 1),
     (b"task\t5\t1\t5", 2, 1),
@@ -749,7 +769,9 @@ TEXT_FAULTS = [
     # 3: missing
     (b"", 3, 1),
     (b"procs\t1\n", 3, 2),
+    (b"procs\t1\r\n", 3, 2),
     (b"procs\t1\npolicy\tedf\n", 3, 3),
+    (b"procs\t1\npolicy\tedf\r\n", 3, 3),
     (HEAD, 3, 3),
     (b"procs\t1\nend\t5\n", 3, 2),
     (b"procs\t1\nend\t5\nrelease\t0\t1\n", 3, 2),
@@ -809,11 +831,13 @@ class RefusedTexts(Checks):
         # Well formed to the last byte, so that only the length differs.
         head = HEAD + b"end\t5\n"
         for length, number in [(59_999, 12), (60_000, 12), (60_001, 1)]:
-            text = head + cases.release_lines(length - len(head))
-            self.assertEqual(len(text), length)
-            self.assertIsNone(line_fault(text))
-            answer = replay.read_case(text, roomy(96), roomy(4_000))
-            self.assertRefused(answer, number, 0, roomy(96), roomy(4_000))
+            # A return is a byte like any other for the length.
+            for end in (b"\n", b"\r\n"):
+                text = head + cases.release_lines(length - len(head), end)
+                self.assertEqual(len(text), length)
+                self.assertIsNone(line_fault(text))
+                answer = replay.read_case(text, roomy(96), roomy(4_000))
+                self.assertRefused(answer, number, 0, roomy(96), roomy(4_000))
 
     def test_rooms_come_first(self):
         for text in (PRINTED_CASE, b"", b"\n", b"x" * 60_001):
@@ -831,6 +855,15 @@ class RefusedTexts(Checks):
             self.assertAccepted(answer, [2, EDF_CF, 10, 3, 3],
                                 SET_A + task_room[9:],
                                 ALL_THREE + release_room[6:])
+
+    def test_returns_before_newlines_change_nothing(self):
+        lines = PRINTED_CASE.split(b"\n")
+        for way in range(2 ** (len(lines) - 1)):
+            # Bit k of the way: whether line k has a return.
+            ends = [b"\r\n" if way >> k & 1 else b"\n" for k in range(len(lines) - 1)]
+            text = b"".join(line + end for line, end in zip(lines, ends))
+            answer = replay.read_case(text, roomy(96), roomy(4_000))
+            self.assertAccepted(answer, [2, EDF_CF, 10, 3, 3], SET_A + roomy(96)[9:], ALL_THREE + roomy(4_000)[6:])
 
     def test_without_a_policy_line_the_policy_is_edf(self):
         text = (b"procs\t32\ntask\t10000\t1\t10000\nend\t100000\n"
@@ -880,7 +913,8 @@ def line_fault(text):
     The lines are spelled as one letter each.  A legal text spells P O? T+ E R*,
     so the first letter that no such spelling can hold there is at fault.
     """
-    lines = text.split(b"\n")
+    # A line ends at a newline, or at a return that has one behind it.
+    lines = re.split(rb"\r?\n", text)
     unended = lines.pop()
     spelled = "".join(kind_of(line) for line in lines)
     if unended:
@@ -892,6 +926,67 @@ def line_fault(text):
     if "E" not in spelled:
         return 3, fits + 1
     return None
+
+
+# Wrong readings of returns that look right: what each makes of a text's lines,
+# as replay.lines_in does, or of the text that is read.
+
+
+def all_returns_skipped(text):
+    *whole, rest = text.replace(b"\r", b"").split(b"\n")
+    return whole, rest
+
+
+def two_returns_dropped(text):
+    *whole, rest = text.split(b"\n")
+    return [line.removesuffix(b"\r").removesuffix(b"\r") for line in whole], rest
+
+
+def return_dropped_without_newline(text):
+    *whole, rest = text.split(b"\n")
+    return [line.removesuffix(b"\r") for line in whole], rest.removesuffix(b"\r")
+
+
+def returns_refused(text):
+    *whole, rest = text.split(b"\n")
+    return whole, rest
+
+
+def last_line_alone_returned(text):
+    """The returns of lines that more lines follow are refused."""
+    *whole, rest = text.split(b"\n")
+    return whole[:-1] + [line.removesuffix(b"\r") for line in whole[-1:]], rest
+
+
+WRONG_LINES = [all_returns_skipped, two_returns_dropped, return_dropped_without_newline, returns_refused, last_line_alone_returned]
+
+
+class WrongReturns(unittest.TestCase):
+
+    def answers(self, texts):
+        return [replay.read_case(text, roomy(96), roomy(4_000))[:2] for text in texts]
+
+    def assertTold(self, texts, least):
+        """Each wrong reading answers so many of the texts otherwise; gives how many."""
+        right = self.answers(texts)
+        told = {"length after dropping": sum(a != b for a, b in zip(right, self.answers(map(cases.without_returns, texts))))}
+        for wrong in WRONG_LINES:
+            with unittest.mock.patch.object(replay, "lines_in", wrong):
+                told[wrong.__name__] = sum(a != b for a, b in zip(right, self.answers(texts)))
+        for name, count in told.items():
+            self.assertGreaterEqual(count, least, name)
+        return told
+
+    def test_each_is_told_by_hand(self):
+        most = HEAD + b"end\t5\n"
+        texts = [text for text, _, _ in TEXT_FAULTS] + [most + cases.release_lines(60_001 - len(most), b"\r\n"), PRINTED_CASE,
+                                                        PRINTED_CASE.replace(b"\n", b"\r\n")]
+        self.assertTold(texts, 1)
+
+    def test_each_is_told_by_the_texts(self):
+        found = [text.data for text in cases.texts("wrong returns", 3_000) if text.kind != "short room"]
+        told = self.assertTold(found, 5)
+        print(f"wrong readings of returns, each told by so many of {len(found)} texts:", told)
 
 
 class RandomInputs(Checks):
@@ -1014,19 +1109,21 @@ class RandomInputs(Checks):
         self.assertEqual(tried, 401)
 
     def test_writing_what_was_read(self):
-        accepted = 0
+        accepted = returned = 0
         for text in cases.texts("writing", 1_500):
             answer, case = replay.read_for_program(text.data)
             if case is None:
                 continue
             accepted += 1
             written = replay.write_report(text.data)
-            if b"policy" in text.data:
-                self.assertEqual(written, text.data)
+            data = cases.without_returns(text.data)
+            returned += data != text.data
+            if b"policy" in data:
+                self.assertEqual(written, data)
             else:
-                procs, rest = text.data.split(b"\n", 1)
+                procs, rest = data.split(b"\n", 1)
                 self.assertEqual(written, procs + b"\npolicy\tedf\n" + rest)
-        self.assertGreater(accepted, 50)
+        self.assertGreater(min(accepted - returned, returned), 50)
 
     def test_same_seed_same_inputs(self):
         for stream in (cases.legal_cases, cases.large_cases, cases.calls,

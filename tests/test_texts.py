@@ -19,11 +19,12 @@ def case_read(answer):
                       release_room[:2 * releases])
 
 
-def with_policy_line(text):
-    """The text with its policy line, put in where it was absent."""
-    first, rest = text.split(b"\n", 1)
+def rewritten(text):
+    """The text with its policy line, put in where it was absent, and without its returns."""
+    bare = cases.without_returns(text)
+    first, rest = bare.split(b"\n", 1)
     if rest.startswith(b"policy\t"):
-        return text
+        return bare
     return first + b"\npolicy\tedf\n" + rest
 
 
@@ -51,14 +52,15 @@ class Texts(unittest.TestCase):
         self.assertEqual(set(seen["read_case"]), {*range(14), 16})
 
     def test_texts_read_and_written(self):
-        """Writing what was read gives the same text but for the policy line."""
+        """Writing what was read gives the text with its policy line and without its returns."""
         rng = random.Random("read and written")
         texts = [cases.text_of(case, with_policy=rng.random() < 0.5)
                  for case in cases.legal_cases("texts", 400)]
+        texts = [cases.with_returns(rng, text) if rng.random() < 0.5 else text for text in texts]
         reads = [("read_case", (text, *reader_rooms(rng))) for text in texts]
         calls = []
         for text, answer in zip(texts, driven.hold(self, reads)):
-            length = len(with_policy_line(text))
+            length = len(rewritten(text))
             case = case_read(answer)
             for room in (length, length + rng.choice([1, 30]), length - 1):
                 calls.append(("write_case",
@@ -68,8 +70,8 @@ class Texts(unittest.TestCase):
                            driven.tally(calls, found))
         for text, whole, longer, short in zip(texts, *(found[k::3]
                                                        for k in range(3))):
-            self.assertEqual(text_written(whole), with_policy_line(text))
-            self.assertEqual(text_written(longer), with_policy_line(text))
+            self.assertEqual(text_written(whole), rewritten(text))
+            self.assertEqual(text_written(longer), rewritten(text))
             self.assertEqual((short.number, short.values), (13, [0]))
 
     def test_cases_written_and_read(self):
@@ -88,14 +90,15 @@ class Texts(unittest.TestCase):
             self.assertEqual(case_read(answer), case)
 
     def test_every_cut(self):
-        """A text cut at each of its bytes."""
+        """A text cut at each of its bytes, without returns and with them."""
         case = cases.Case(2, 1, [10, 1, 4, 10, 1, 1, 10, 5, 5], 10,
                           [0, 1, 0, 2, 0, 3])
-        text = cases.text_of(case)
+        bare = cases.text_of(case)
         rng = random.Random("every cut")
         rooms = reader_rooms(rng)
-        driven.hold(self, [("read_case", (text[:at], *rooms))
-                           for at in range(len(text) + 1)])
+        for text in (bare, bare.replace(b"\n", b"\r\n")):
+            driven.hold(self, [("read_case", (text[:at], *rooms))
+                               for at in range(len(text) + 1)])
 
     def test_each_task_left_out(self):
         """32 tasks, all of them released, and then all but one."""
@@ -112,8 +115,8 @@ class Texts(unittest.TestCase):
                          + [(16, [task]) for task in range(1, 33)])
 
     def test_every_byte_in_each_place(self):
-        """Each of 256 bytes put for each byte of a short text."""
-        text = b"procs\t1\npolicy\tedf\ntask\t5\t1\t5\nend\t9\nrelease\t0\t1\n"
+        """Each of 256 bytes put for each byte of a short text, of which some lines have a return."""
+        text = b"procs\t1\npolicy\tedf\r\ntask\t5\t1\t5\nend\t9\r\nrelease\t0\t1\r\n"
         rooms = reader_rooms(random.Random("every byte"))
         calls = [("read_case",
                   (text[:at] + bytes([byte]) + text[at + 1:], *rooms))
@@ -130,11 +133,13 @@ class Texts(unittest.TestCase):
         for length in (59_999, 60_000, 60_001):
             good = head + cases.release_lines(length - len(head))
             self.assertEqual(len(good), length)
-            for text in (good, (head + good)[:length], b"\n" * length,
+            returned = head + cases.release_lines(length - len(head), b"\r\n")
+            for text in (good, returned, (head + good)[:length], b"\n" * length, b"\r" * length,
                          b"\0" * length, head + b"1" * (length - len(head))):
                 calls.append(("read_case", (text, *rooms)))
         found = driven.hold(self, calls)
-        self.assertEqual([answer.number for answer in found[::5]], [12, 12, 1])
+        for way in (0, 1):
+            self.assertEqual([answer.number for answer in found[way::7]], [12, 12, 1])
 
 
 if __name__ == "__main__":

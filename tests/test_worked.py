@@ -156,8 +156,19 @@ def the_case_text():
                 accepted([101], TEXT_A + b"9999"), ["write"], TEXT_A, TEXT_A, None)
 
 
+def returns():
+    """The same text with a return before each newline (request P4): read it is the same case, and written it has none."""
+    tasks, releases = list(range(96)), list(range(4_000))
+    text = TEXT_A.replace(b"\n", b"\r\n")
+    yield Entry(("read_case", (text, tasks, releases)),
+                accepted([2, 1, 10, 3, 3], SET_A + tasks[9:], ALL_AT_0 + releases[6:]), [], text, content("set-a-edf-cf.out"),
+                "set-a-returns")
+    yield Entry(("read_case", (TEXT_A.replace(b"\n", b"\r\r\n"), tasks, releases)), refused((2, 1), tasks, releases),
+                ["write"], text, TEXT_A, None)
+
+
 LINES = [availability_through_counts, set_a, set_b, one_task, larger_count, two_tasks, no_release, task_without_release, separation,
-         the_case_text]
+         the_case_text, returns]
 
 
 class WorkedByHand(unittest.TestCase):

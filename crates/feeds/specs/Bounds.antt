@@ -18,15 +18,15 @@ use Rattle.rules.specs.Case.{Case}
 use Rattle.rules.specs.Slot.{TaskSet, opened, worked}
 use Rattle.rules.specs.Replay.{setupIn, releasedAt}
 use Rattle.rules.specs.Refusals.{unless, orNext}
-use Rattle.rules.specs.Text.{newlineByte, tabByte, isDigit}
+use Rattle.rules.specs.Text.{newlineByte, returnByte, tabByte, isDigit}
 use Rattle.rules.specs.Log.{slotWord, keepsRule}
 use Rattle.lists.specs.Lists.{picked}
 use Rattle.lists.specs.Tests.{and-left, and-right}
 use Rattle.legal.specs.Firsts.{unless-clear, next-clear}
 use Rattle.feeds.specs.NumScan.{NumScan, numBad, numSoFar, fits, numByte, numEnd, numStart}
-use Rattle.feeds.specs.LineScan.{LineScan, unread, wrong, inWord, inTime, inTask, afterTime, afterTask, timeAt, taskAt, wordTab}
-use Rattle.feeds.specs.LineScan.{wordByte, isName, withName, scanByte, atStart, Heard, heardBad, heard, heardTime, heardTask}
-use Rattle.feeds.specs.LineScan.{lineEnd}
+use Rattle.feeds.specs.LineScan.{LineScan, unread, wrong, inWord, inTime, inTask, returned, afterTime, afterTask, timeAt, taskAt}
+use Rattle.feeds.specs.LineScan.{wordTab, wordByte, isName, withName, fieldByte, atStart, Heard, heardBad, heard, heardTime}
+use Rattle.feeds.specs.LineScan.{heardTask, lineEnd, afterReturn, atReturn, scanByte}
 use Rattle.feeds.specs.Feed.{Feed, feedOf, opening, formedHeard, namesHeard, setHeard, heardFault, closedBy, closed, feedByte}
 use Rattle.feeds.specs.Feed.{feed, fedFault}
 
@@ -62,6 +62,7 @@ LineSmall wrong = Unit {0}
 LineSmall (inWord ws) = length ws ≤ 4
 LineSmall (inTime k v) = NumSmall (numSoFar k v)
 LineSmall (inTask t low rises names set k v) = (t < 10 ^ 9) × (low ≤ 10 ^ 9) × NumSmall (numSoFar k v)
+LineSmall (returned t rises names set) = t < 10 ^ 9
 
 small-word : (ws : List ℕ) (b : ℕ) → length ws ≤ 4 → LineSmall (pick (eqb b tabByte) (wordTab ws) (wordByte ws b))
 small-word [] b h = picked LineSmall (eqb b tabByte) _ _ (λ e. (omega arith, omega arith)) (λ e. tt)
@@ -77,19 +78,19 @@ small-task : (t low : ℕ) (rises names : Bool) (set : TaskSet) (n : Num) → t 
 small-task t low rises names set Num·.Bad l h = tt
 small-task t low rises names set (Num·.Value v) l h = (l, omega arith, (omega arith, omega arith))
 
-pub small-scan : (x : LineScan) (b : ℕ) → LineSmall x → LineSmall (scanByte x b)
-unfolding scanByte
-small-scan unread b h = small-word slotWord b (omega arith)
-small-scan wrong b h = tt
-small-scan (inWord ws) b h = small-word ws b h
-small-scan (inTime k v) b h =
+pub small-field : (x : LineScan) (b : ℕ) → LineSmall x → LineSmall (fieldByte x b)
+unfolding fieldByte
+small-field unread b h = small-word slotWord b (omega arith)
+small-field wrong b h = tt
+small-field (inWord ws) b h = small-word ws b h
+small-field (inTime k v) b h =
     picked LineSmall (eqb b tabByte) _ _ (λ e. small-time (numEnd (numSoFar k v)) (small-end (numSoFar k v) h))
     (λ e. small-at (numByte (numSoFar k v) b) (small-byte (numSoFar k v) b h))
   where
     small-at : (x : NumScan) → NumSmall x → LineSmall (timeAt x)
     small-at numBad h = tt
     small-at (numSoFar k v) h = h
-small-scan (inTask t low rises names set k v) b h =
+small-field (inTask t low rises names set k v) b h =
     picked LineSmall (eqb b tabByte) _ _
     (λ e. small-task t low rises names set (numEnd (numSoFar k v)) (h .0) (small-end (numSoFar k v) (h .2)))
     (λ e. small-at (numByte (numSoFar k v) b) (small-byte (numSoFar k v) b (h .2)))
@@ -97,6 +98,7 @@ small-scan (inTask t low rises names set k v) b h =
     small-at : (x : NumScan) → NumSmall x → LineSmall (taskAt t low rises names set x)
     small-at numBad z = tt
     small-at (numSoFar k v) z = (h .0, h .1, z)
+small-field (returned t rises names set) b h = tt
 
 abbrev HeardSmall : Heard → Type 0
 HeardSmall heardBad = Unit {0}
@@ -117,6 +119,25 @@ small-heard (inTask t low rises names set k v) h = go (numEnd (numSoFar k v))
     go : (n : Num) → HeardSmall (heardTask t low rises names set n)
     go Num·.Bad = tt
     go (Num·.Value v) = h .0
+small-heard (returned t rises names set) h = h
+
+small-after : (h : Heard) → HeardSmall h → LineSmall (afterReturn h)
+small-after heardBad s = tt
+small-after (heard t rises names set) s = s
+
+small-return : (x : LineScan) → LineSmall x → LineSmall (atReturn x)
+unfolding atReturn lineEnd
+small-return unread h = tt
+small-return wrong h = tt
+small-return (inWord ws) h = tt
+small-return (inTime k v) h = small-after (heardTime (numEnd (numSoFar k v))) (small-heard (inTime k v) h)
+small-return (inTask t low rises names set k v) h =
+    small-after (heardTask t low rises names set (numEnd (numSoFar k v))) (small-heard (inTask t low rises names set k v) h)
+small-return (returned t rises names set) h = tt
+
+pub small-scan : (x : LineScan) (b : ℕ) → LineSmall x → LineSmall (scanByte x b)
+unfolding scanByte
+small-scan x b h = picked LineSmall (eqb b returnByte) _ _ (λ e. small-return x h) (λ e. small-field x b h)
 
 -- ---- the whole state
 pub record FeedSmall (f : Feed) : Type 0 where

@@ -1,7 +1,7 @@
 -- The check of a log fed in pieces of any length: a state by value that does not grow with the log, a step for a byte, the law that two
 -- pieces one after the other are their join, and that the answer read off the state is `logAnswer` of rules, Log.
 use mathlib.Core.Path.{_≡_, refl, sym, ap, ap₂, _∙_}
-use mathlib.Core.Bool.{Bool, true, false, _&&_, _||_, true≢false}
+use mathlib.Core.Bool.{Bool, true, false, _&&_, _||_}
 use mathlib.Core.List.{List, [], _∷_, _++_, append-assoc, append-nil}
 use Prim.Native.Nat.{ℕ, zero, suc, _+_, _≤_, _<_}
 use native.Mathlib.Omega.{arith}
@@ -24,11 +24,11 @@ use Rattle.lists.specs.Lists.{picked}
 use Rattle.legal.specs.Firsts.{next-none, next-some}
 use Rattle.bridge.specs.Steps.{Full, opened-full, worked-same}
 use Rattle.feeds.specs.Alike.{within, within-same, keeps-same, followed-full}
-use Rattle.texts.specs.Fields.{upTo-without}
+use Rattle.texts.specs.Fields.{without-head, upTo-without}
 use Rattle.texts.specs.LinesOf.{line-cut, afterLine-less, by-ended, by-unended}
 use Rattle.feeds.specs.LineScan.{LineScan, unread, atStart, scanByte, scanAll, Heard, heardBad, heard, lineEnd, hears, begun}
 use Rattle.feeds.specs.LineScan.{begun-all}
-use Rattle.feeds.specs.LineHeard.{line-heard}
+use Rattle.feeds.specs.Returned.{line-heard}
 use Rattle.feeds.specs.Front.{line-next, long-next, state-front, first-front}
 
 -- ---- the state: the line that is being read, how many lines were before it, the state of the run, the first fault so far
@@ -94,17 +94,11 @@ feed-append c f [] b = refl
 feed-append c f (x ∷ a) b = feed-append c (feedByte c f x) a b
 
 -- ---- within a line
-newline-head : (b : ℕ) (s : List ℕ) → has newlineByte (b ∷ s) ≡ false → (eqb b newlineByte ≡ false)
-    × (has newlineByte s ≡ false)
-unfolding has
-newline-head b s = picked (λ t. t ≡ false → (eqb b newlineByte ≡ false) × (has newlineByte s ≡ false)) (eqb b newlineByte) true
-    (has newlineByte s) (λ p e. absurd (true≢false e)) (λ p e. (p, e))
-
 pub feed-within : (c : Case) (l : List ℕ) (x : LineScan) (n : ℕ) (r : Run) (f : Fault) → has newlineByte l ≡ false
     → feed c (feedOf x n r f) l ≡ feedOf (scanAll x l) n r f
 unfolding feed feedByte scanAll
 feed-within c [] x n r f h = refl
-feed-within c (b ∷ l) x n r f h = let w = newline-head b l h in rw (w .0) (feed-within c l (scanByte x b) n r f (w .1))
+feed-within c (b ∷ l) x n r f h = let w = without-head newlineByte b l h in rw (w .0) (feed-within c l (scanByte x b) n r f (w .1))
 
 -- ---- what is heard is tested as what is said
 formed-heard : (n : ℕ) (l : LogLine) → formedHeard n (hears l) ≡ wellFormed n l
@@ -172,15 +166,15 @@ module _ (c : Case) (ls : List LogLine) (x : LogLine) where
   fed-next = feed-same _ _ _ _ _ _ (sym (long-next ls x)) next-run next-fault
 
 fed-line : (c : Case) (ls : List LogLine) (l rest : List ℕ) → has newlineByte l ≡ false
-    → feed c (fedOf c ls) (l ++ (newlineByte ∷ rest)) ≡ feed c (fedOf c (ls ++ (slotSays l ∷ []))) rest
+    → feed c (fedOf c ls) (l ++ (newlineByte ∷ rest)) ≡ feed c (fedOf c (ls ++ (slotSays (lineOf (l ++ (newlineByte ∷ rest))) ∷ []))) rest
 unfolding fedOf
 fed-line c ls l rest h =
     feed-append c (fedOf c ls) l (newlineByte ∷ rest)
     ∙ ap (λ (f : Feed). feed c f (newlineByte ∷ rest)) (feed-within c l unread (length ls) _ _ h)
     ∙ closes
     ∙ ap (λ (x : Heard). feed c
-    (closedBy c x (length ls) (openedBy c (setsOf ls) (length ls)) (firstOf (lineFault c ls) (length ls))) rest) (line-heard l)
-    ∙ ap (λ (f : Feed). feed c f rest) (fed-next c ls (slotSays l))
+    (closedBy c x (length ls) (openedBy c (setsOf ls) (length ls)) (firstOf (lineFault c ls) (length ls))) rest) (line-heard l rest h)
+    ∙ ap (λ (f : Feed). feed c f rest) (fed-next c ls (slotSays (lineOf (l ++ (newlineByte ∷ rest)))))
   where
     closes : feed c (feedOf (scanAll unread l) (length ls) (followed (setupIn c) (releasedAt c) (setsOf ls) (length ls))
         (firstOf (lineFault c ls) (length ls))) (newlineByte ∷ rest)
@@ -206,10 +200,16 @@ fed-over c ls = refl
 -- and after the beginning of one more
 fed-broken : (c : Case) (ls : List LogLine) (x : LineScan) (n : ℕ) (r : Run) → n ≡ length ls → atStart x ≡ false
     → fedFault c (feedOf x n r (firstOf (lineFault c ls) (length ls))) ≡ linesFaultIn c (ls ++ (badLine ∷ []))
-unfolding fedFault linesFaultIn
+unfolding linesFaultIn
 fed-broken c ls x n r z e =
-    rw (z, e, long-next ls badLine) (both ∙ sym (whole))
+    asked ∙ rw (z, e, long-next ls badLine) (both ∙ sym (whole))
   where
+    -- the fault so far, then whether a line is unfinished, then how many lines there are
+    asked : fedFault c (feedOf x n r (firstOf (lineFault c ls) (length ls)))
+        ≡ orNext (firstOf (lineFault c ls) (length ls))
+        (orNext (unless (atStart x) 17 (suc n)) (orNext (unless (eqb n (c .end)) 19 0) noFault))
+    asked = unfold fedFault in refl
+
     last : Fault
     last = orNext (unless (eqb (suc (length ls)) (c .end)) 19 0) noFault
 
@@ -262,7 +262,8 @@ fed-lines c (suc k) (b ∷ s) ls h =
         → fedFault c (feed c (fedOf c ls) (b ∷ s)) ≡ linesFaultIn c (ls ++ linesBy slotSays badLine (suc k) (b ∷ s))
     go true e ih =
         ap (λ (t : List ℕ). fedFault c (feed c (fedOf c ls) t)) (sym (line-cut (b ∷ s) e))
-        ∙ ap (fedFault c) (fed-line c ls (lineOf (b ∷ s)) (afterLine (b ∷ s)) (unfold lineOf in upTo-without newlineByte (b ∷ s)))
+        ∙ ap (fedFault c) (fed-line c ls (upTo newlineByte (b ∷ s)) (afterLine (b ∷ s)) (upTo-without newlineByte (b ∷ s)))
+        ∙ ap (λ (t : List ℕ). fedFault c (feed c (fedOf c (ls ++ (slotSays (lineOf t) ∷ []))) (afterLine (b ∷ s)))) (line-cut (b ∷ s) e)
         ∙ ih
         ∙ ap (linesFaultIn c) (append-assoc ls (slotSays (lineOf (b ∷ s)) ∷ []) (linesBy slotSays badLine k (afterLine (b ∷ s)))
         ∙ ap (λ (ms : List LogLine). ls ++ ms) (sym (by-ended slotSays badLine k b s e)))

@@ -1,4 +1,4 @@
--- What is heard of a line that is read byte by byte (LineScan) is what `slotSays` of rules, Log, says of the whole line. For Feed.
+-- What is heard of the fields of a line, read byte by byte (LineScan), is what `slotSays` of rules, Log, says of them. For Returned.
 use mathlib.Core.Path.{_≡_, refl, sym, ap, _∙_, fun-ext}
 use mathlib.Core.Bool.{Bool, true, false, _&&_, _||_, and-false, false≢true}
 use mathlib.Core.List.{List, [], _∷_, _++_}
@@ -13,15 +13,15 @@ use Rattle.rules.specs.declared.Num.the-variants as Num·
 use Rattle.rules.specs.Words.{pick}
 use Rattle.rules.specs.Limits.{maxTasks}
 use Rattle.rules.specs.Slot.{TaskSet}
-use Rattle.rules.specs.Text.{tabByte, same, upTo, has, fieldOf, afterField, numberIn}
+use Rattle.rules.specs.Text.{tabByte, same, has, fieldOf, afterField, numberIn}
 use Rattle.rules.specs.Log.{LogLine, badLine, slotLine, slotWord, fieldsIn, fieldsOf, withValue, withNumbers, timeAndTasks, slotFields}
 use Rattle.rules.specs.Log.{slotSays, risePast, rising, setNamed, nameTasks}
 use Rattle.lists.specs.Lists.{picked}
-use Rattle.texts.specs.Fields.{cut-at, past-less}
+use Rattle.texts.specs.Fields.{upTo-without, cut-at, past-less}
 use Rattle.feeds.specs.Alike.{within}
 use Rattle.feeds.specs.NumScan.{NumScan, numStart, numAll, numEnd, num-scanned}
 use Rattle.feeds.specs.LineScan.{LineScan, unread, wrong, inWord, inTime, inTask, isName, withName, afterTime, afterTask}
-use Rattle.feeds.specs.LineScan.{scanByte, scanAll, Heard, heardBad, heard, heardTime, heardTask, lineEnd, hears, scan-append}
+use Rattle.feeds.specs.LineScan.{fieldByte, fieldAll, Heard, heardBad, heard, heardTime, heardTask, lineEnd, hears, fields-append}
 use Rattle.feeds.specs.LineScan.{wrong-ends, time-field, task-field, time-end, task-end, time-over, task-over, word-tab}
 use Rattle.feeds.specs.LineScan.{word-ends}
 
@@ -116,20 +116,10 @@ heard-all [] = refl
 heard-all (t ∷ ns) = heard-tasks t 0 true true (setNamed []) ns ∙ rw (rising-from ns)
 
 -- ---- fields of numbers, read byte by byte
-field-no-tab : (s : List ℕ) → has tabByte (upTo tabByte s) ≡ false
-unfolding has upTo
-field-no-tab [] = refl
-field-no-tab (b ∷ s) = go (eqb b tabByte) refl (field-no-tab s)
-  where
-    go : (e : Bool) → eqb b tabByte ≡ e → has tabByte (upTo tabByte s) ≡ false → has tabByte (pick e [] (b ∷ upTo tabByte s))
-        ≡ false
-    go true q h = unfold has in refl
-    go false q h = unfold has in rw (q, h)
-
 module _ (t low : ℕ) (rises names : Bool) (set : TaskSet) where
   -- the last task of a line
   task-last : (s : List ℕ) → has tabByte s ≡ false
-      → lineEnd (scanAll (inTask t low rises names set 0 0) s)
+      → lineEnd (fieldAll (inTask t low rises names set 0 0) s)
       ≡ withHeard (numberIn s) (λ v. heardTasks t low rises names set (v ∷ []))
   unfolding lineEnd heardTasks
   task-last s h = ap lineEnd (task-field t low rises names set s numStart h) ∙ task-end t low rises names set (numAll numStart s)
@@ -140,14 +130,14 @@ module _ (t low : ℕ) (rises names : Bool) (set : TaskSet) where
       go (Num·.Value v) = unfold heardTasks in refl
 
   -- a task with a tab behind it
-  task-tab : (f : List ℕ) → has tabByte f ≡ false → scanByte (scanAll (inTask t low rises names set 0 0) f) tabByte
+  task-tab : (f : List ℕ) → has tabByte f ≡ false → fieldByte (fieldAll (inTask t low rises names set 0 0) f) tabByte
       ≡ afterTask t low rises names set (numberIn f)
-  unfolding scanByte
-  task-tab f h = ap (λ (x : LineScan). scanByte x tabByte) (task-field t low rises names set f numStart h)
+  unfolding fieldByte
+  task-tab f h = ap (λ (x : LineScan). fieldByte x tabByte) (task-field t low rises names set f numStart h)
       ∙ task-over t low rises names set (numAll numStart f) ∙ ap (afterTask t low rises names set) (num-scanned f)
 
 -- the last field that is a time
-time-last : (s : List ℕ) → has tabByte s ≡ false → lineEnd (scanAll (inTime 0 0) s)
+time-last : (s : List ℕ) → has tabByte s ≡ false → lineEnd (fieldAll (inTime 0 0) s)
     ≡ withHeard (numberIn s) (λ v. heardAll (v ∷ []))
 unfolding lineEnd
 time-last s h = ap lineEnd (time-field s numStart h) ∙ time-end (numAll numStart s) ∙ ap heardTime (num-scanned s) ∙ go (numberIn s)
@@ -156,19 +146,19 @@ time-last s h = ap lineEnd (time-field s numStart h) ∙ time-end (numAll numSta
     go Num·.Bad = refl
     go (Num·.Value v) = unfold heardAll heardTasks in refl
 
-time-tab : (f : List ℕ) → has tabByte f ≡ false → scanByte (scanAll (inTime 0 0) f) tabByte ≡ afterTime (numberIn f)
-unfolding scanByte
-time-tab f h = ap (λ (x : LineScan). scanByte x tabByte) (time-field f numStart h) ∙ time-over (numAll numStart f)
+time-tab : (f : List ℕ) → has tabByte f ≡ false → fieldByte (fieldAll (inTime 0 0) f) tabByte ≡ afterTime (numberIn f)
+unfolding fieldByte
+time-tab f h = ap (λ (x : LineScan). fieldByte x tabByte) (time-field f numStart h) ∙ time-over (numAll numStart f)
     ∙ ap afterTime (num-scanned f)
 
 -- a state goes through a text with a tab: through the field, the tab, and what follows
-through : (x : LineScan) (s : List ℕ) → has tabByte s ≡ true → scanAll x s ≡ scanAll (scanByte (scanAll x (fieldOf s)) tabByte)
+through : (x : LineScan) (s : List ℕ) → has tabByte s ≡ true → fieldAll x s ≡ fieldAll (fieldByte (fieldAll x (fieldOf s)) tabByte)
     (afterField s)
-unfolding fieldOf afterField scanAll
-through x s h = ap (scanAll x) (sym (cut-at tabByte s h)) ∙ scan-append x (fieldOf s) (tabByte ∷ afterField s)
+unfolding fieldOf afterField fieldAll
+through x s h = ap (fieldAll x) (sym (cut-at tabByte s h)) ∙ fields-append x (fieldOf s) (tabByte ∷ afterField s)
 
 scan-tasks : (k : ℕ) (s : List ℕ) → length s ≤ k → (t low : ℕ) (rises names : Bool) (set : TaskSet)
-    → lineEnd (scanAll (inTask t low rises names set 0 0) s) ≡ hearNumbers (fieldsIn k s) (heardTasks t low rises names set)
+    → lineEnd (fieldAll (inTask t low rises names set 0 0) s) ≡ hearNumbers (fieldsIn k s) (heardTasks t low rises names set)
 unfolding fieldsIn hearNumbers
 scan-tasks zero [] h t low rises names set = task-last t low rises names set [] (unfold has in refl)
 scan-tasks zero (b ∷ s) h t low rises names set = absurd (omega arith)
@@ -178,24 +168,24 @@ scan-tasks (suc k) (b ∷ s) h t low rises names set =
   where
     go : (e : Bool) → has tabByte (b ∷ s) ≡ e
         → ((t low : ℕ) (rises names : Bool) (set : TaskSet)
-        → lineEnd (scanAll (inTask t low rises names set 0 0) (afterField (b ∷ s)))
+        → lineEnd (fieldAll (inTask t low rises names set 0 0) (afterField (b ∷ s)))
         ≡ hearNumbers (fieldsIn k (afterField (b ∷ s))) (heardTasks t low rises names set))
-        → lineEnd (scanAll (inTask t low rises names set 0 0) (b ∷ s))
+        → lineEnd (fieldAll (inTask t low rises names set 0 0) (b ∷ s))
         ≡ hearNumbers (pick e (fieldOf (b ∷ s) ∷ fieldsIn k (afterField (b ∷ s))) ((b ∷ s) ∷ []))
         (heardTasks t low rises names set)
     go false e more = unfold hearNumbers in task-last t low rises names set (b ∷ s) e
     go true e more =
         ap lineEnd (through (inTask t low rises names set 0 0) (b ∷ s) e)
-        ∙ ap (λ (x : LineScan). lineEnd (scanAll x (afterField (b ∷ s))))
-        (task-tab t low rises names set (fieldOf (b ∷ s)) (unfold fieldOf in field-no-tab (b ∷ s)))
+        ∙ ap (λ (x : LineScan). lineEnd (fieldAll x (afterField (b ∷ s))))
+        (task-tab t low rises names set (fieldOf (b ∷ s)) (unfold fieldOf in upTo-without tabByte (b ∷ s)))
         ∙ (unfold hearNumbers heardTasks in next (numberIn (fieldOf (b ∷ s))))
       where
-        next : (n : Num) → lineEnd (scanAll (afterTask t low rises names set n) (afterField (b ∷ s)))
+        next : (n : Num) → lineEnd (fieldAll (afterTask t low rises names set n) (afterField (b ∷ s)))
             ≡ withHeard n (λ v. hearNumbers (fieldsIn k (afterField (b ∷ s))) (λ vs. heardTasks t low rises names set (v ∷ vs)))
         next Num·.Bad = wrong-ends (afterField (b ∷ s))
         next (Num·.Value v) = unfold heardTasks in more t (suc v) (rises && leb low v) (names && isName v) (withName set v)
 
-scan-time : (k : ℕ) (s : List ℕ) → length s ≤ k → lineEnd (scanAll (inTime 0 0) s) ≡ hearNumbers (fieldsIn k s) heardAll
+scan-time : (k : ℕ) (s : List ℕ) → length s ≤ k → lineEnd (fieldAll (inTime 0 0) s) ≡ hearNumbers (fieldsIn k s) heardAll
 unfolding fieldsIn hearNumbers
 scan-time zero [] h = time-last [] (unfold has in refl)
 scan-time zero (b ∷ s) h = absurd (omega arith)
@@ -203,49 +193,49 @@ scan-time (suc k) [] h = unfold has in time-last [] refl
 scan-time (suc k) (b ∷ s) h = go (has tabByte (b ∷ s)) refl (unfold afterField in omega (arith, past-less tabByte b s))
   where
     go : (e : Bool) → has tabByte (b ∷ s) ≡ e → length (afterField (b ∷ s)) ≤ k
-        → lineEnd (scanAll (inTime 0 0) (b ∷ s))
+        → lineEnd (fieldAll (inTime 0 0) (b ∷ s))
         ≡ hearNumbers (pick e (fieldOf (b ∷ s) ∷ fieldsIn k (afterField (b ∷ s))) ((b ∷ s) ∷ [])) heardAll
     go false e l = unfold hearNumbers in time-last (b ∷ s) e
     go true e l =
         ap lineEnd (through (inTime 0 0) (b ∷ s) e)
-        ∙ ap (λ (x : LineScan). lineEnd (scanAll x (afterField (b ∷ s))))
-        (time-tab (fieldOf (b ∷ s)) (unfold fieldOf in field-no-tab (b ∷ s)))
+        ∙ ap (λ (x : LineScan). lineEnd (fieldAll x (afterField (b ∷ s))))
+        (time-tab (fieldOf (b ∷ s)) (unfold fieldOf in upTo-without tabByte (b ∷ s)))
         ∙ (unfold hearNumbers heardAll in next (numberIn (fieldOf (b ∷ s))))
       where
-        next : (n : Num) → lineEnd (scanAll (afterTime n) (afterField (b ∷ s)))
+        next : (n : Num) → lineEnd (fieldAll (afterTime n) (afterField (b ∷ s)))
             ≡ withHeard n (λ v. hearNumbers (fieldsIn k (afterField (b ∷ s))) (λ vs. heardAll (v ∷ vs)))
         next Num·.Bad = wrong-ends (afterField (b ∷ s))
         next (Num·.Value v) = unfold heardAll in scan-tasks k (afterField (b ∷ s)) l v 0 true true (setNamed [])
 
 -- ---- the whole line
 -- fields of numbers are heard as what they say
-time-says : (k : ℕ) (s : List ℕ) → length s ≤ k → lineEnd (scanAll (inTime 0 0) s)
+time-says : (k : ℕ) (s : List ℕ) → length s ≤ k → lineEnd (fieldAll (inTime 0 0) s)
     ≡ hears (withNumbers (fieldsIn k s) timeAndTasks)
 time-says k s h = scan-time k s h ∙ ap (hearNumbers (fieldsIn k s)) (fun-ext heard-all)
     ∙ sym (hears-numbers (fieldsIn k s) timeAndTasks)
 
--- what is heard of a line is what it says
-pub line-heard : (s : List ℕ) → lineEnd (scanAll unread s) ≡ hears (slotSays s)
+-- what is heard of them is what they say
+pub fields-heard : (s : List ℕ) → lineEnd (fieldAll unread s) ≡ hears (slotSays s)
 unfolding slotSays fieldsOf fieldsIn
-line-heard [] = unfold scanAll lineEnd hears same in refl
-line-heard (b ∷ s) = start ∙ go (has tabByte (b ∷ s)) refl (unfold afterField in omega (arith, past-less tabByte b s))
+fields-heard [] = unfold fieldAll lineEnd hears same in refl
+fields-heard (b ∷ s) = start ∙ go (has tabByte (b ∷ s)) refl (unfold afterField in omega (arith, past-less tabByte b s))
   where
-    start : lineEnd (scanAll unread (b ∷ s)) ≡ lineEnd (scanAll (inWord slotWord) (b ∷ s))
-    start = unfold scanAll scanByte in refl
+    start : lineEnd (fieldAll unread (b ∷ s)) ≡ lineEnd (fieldAll (inWord slotWord) (b ∷ s))
+    start = unfold fieldAll fieldByte in refl
 
     go : (e : Bool) → has tabByte (b ∷ s) ≡ e → length (afterField (b ∷ s)) ≤ length s
-        → lineEnd (scanAll (inWord slotWord) (b ∷ s))
+        → lineEnd (fieldAll (inWord slotWord) (b ∷ s))
         ≡ hears (slotFields (pick e (fieldOf (b ∷ s) ∷ fieldsIn (length s) (afterField (b ∷ s))) ((b ∷ s) ∷ [])))
     go false e l = word-ends (b ∷ s) slotWord e
         ∙ (unfold withNumbers in picked (λ x. heardBad ≡ hears x) (same (b ∷ s) slotWord) badLine badLine
         (λ q. unfold hears in refl) (λ q. unfold hears in refl))
     go true e l =
         ap lineEnd (through (inWord slotWord) (b ∷ s) e)
-        ∙ ap (λ (x : LineScan). lineEnd (scanAll x (afterField (b ∷ s))))
-        (word-tab (fieldOf (b ∷ s)) slotWord (unfold fieldOf in field-no-tab (b ∷ s)))
+        ∙ ap (λ (x : LineScan). lineEnd (fieldAll x (afterField (b ∷ s))))
+        (word-tab (fieldOf (b ∷ s)) slotWord (unfold fieldOf in upTo-without tabByte (b ∷ s)))
         ∙ next (same (fieldOf (b ∷ s)) slotWord)
       where
-        next : (w : Bool) → lineEnd (scanAll (pick w (inTime 0 0) wrong) (afterField (b ∷ s)))
+        next : (w : Bool) → lineEnd (fieldAll (pick w (inTime 0 0) wrong) (afterField (b ∷ s)))
             ≡ hears (pick w (withNumbers (fieldsIn (length s) (afterField (b ∷ s))) timeAndTasks) badLine)
         next true = time-says (length s) (afterField (b ∷ s)) l
         next false = unfold hears in wrong-ends (afterField (b ∷ s))

@@ -17,10 +17,10 @@ use Rattle.rules.specs.Text.{newlineByte, upTo}
 use Rattle.lists.specs.Tests.{and-left, and-right, not-is}
 use Rattle.feeds.specs.NumScan.{numSoFar, fits}
 use Rattle.feeds.specs.LineScan.{LineScan, inTime, scanByte, scanAll}
-use Rattle.feeds.specs.Bounds.{NumSmall, small-scan}
+use Rattle.feeds.specs.Bounds.{NumSmall, small-field, small-scan}
 use Rattle.heard.specs.Scans.{phaseAs}
 use Rattle.heard.specs.Lines.{inLine, digitFits, Goes, HeardLine}
-use Rattle.heard.proofs.Scanning.{fits-digit, digit-more}
+use Rattle.heard.proofs.Scanning.{fits-digit, digit-more, scan-other}
 
 -- ---- what the tests say of a place
 pub line-byte : (bytes : List ℕ) (i : ℕ) → inLine bytes i ≡ true → (i < length bytes) × (getD bytes i 0 ≡ newlineByte → ⊥)
@@ -78,14 +78,16 @@ pub goes-digit : (bytes : List ℕ) (i p k v t low : ℕ) (rises names : Bool) (
     → Goes bytes i (phaseAs p k v t low rises names s) (i + 1)
     (phaseAs p (k + 1) (v * 10 + (getD bytes i 0 - 48)) t low rises names s)
 goes-digit bytes i p k v t low rises names s from to l e =
-    rw (digit-more p k v t low rises names s (getD bytes i 0) from to e)
-    (goes-byte bytes i _ l (λ z. omega (arith, fits-digit k v (getD bytes i 0) e)))
+    rw (
+      digit-more p k v t low rises names s (getD bytes i 0) from to e,
+      scan-other (phaseAs p k v t low rises names s) (getD bytes i 0) (λ z. omega (arith, fits-digit k v (getD bytes i 0) e)),
+    ) (goes-byte bytes i _ l (λ z. omega (arith, fits-digit k v (getD bytes i 0) e)))
 
 -- and it stays small
 pub small-digit : (k v b : ℕ) → fits k v b ≡ true → NumSmall (numSoFar k v)
     → NumSmall (numSoFar (k + 1) (v * 10 + (b - 48)))
 small-digit k v b e h =
-    rw (← digit-more 1 k v 0 0 true true (λ i. false) b (omega arith) (omega arith) e) at (small-scan (inTime k v) b h)
+    rw (← digit-more 1 k v 0 0 true true (λ i. false) b (omega arith) (omega arith) e) at (small-field (inTime k v) b h)
 
 -- at the end of the line
 pub goes-all : {bytes : List ℕ} {i j : ℕ} {x y : LineScan} (xs : List Bool) → length xs ≡ maxTasks → Goes bytes i x j y

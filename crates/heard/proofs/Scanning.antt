@@ -1,5 +1,5 @@
--- One byte more of a line: the steps of `scanByte` and `lineEnd` (feeds, LineScan) as the code takes them, and the set as it stands in an
--- array.
+-- One byte more of a line: the steps of `fieldByte`, `atReturn` and `lineEnd` (feeds, LineScan) as the code takes them, and the set as it
+-- stands in an array.
 use mathlib.Core.Path.{_≡_, refl, sym, ap, _∙_, fun-ext}
 use mathlib.Core.Bool.{Bool, true, false, _&&_, _||_, not, or-true, or-false, and-false, true≢false}
 use mathlib.Core.List.{List, [], _∷_}
@@ -17,12 +17,13 @@ use Rattle.rules.specs.declared.Num.the-variants as Num·
 use Rattle.rules.specs.Words.{pick, tab}
 use Rattle.rules.specs.Limits.{maxTasks}
 use Rattle.rules.specs.Slot.{TaskSet}
-use Rattle.rules.specs.Text.{tabByte, isDigit}
+use Rattle.rules.specs.Text.{returnByte, tabByte, isDigit}
 use Rattle.rules.specs.Log.{slotWord, setNamed}
 use Rattle.lists.specs.Tests.{and-left, and-right}
 use Rattle.feeds.specs.NumScan.{NumScan, numBad, numSoFar, fits, numByte, numEnd}
-use Rattle.feeds.specs.LineScan.{LineScan, unread, wrong, inWord, inTime, inTask, isName, withName, timeAt, taskAt, afterTime, afterTask}
-use Rattle.feeds.specs.LineScan.{wordTab, wordByte, scanByte, Heard, heardBad, heard, heardTime, heardTask, lineEnd, atStart}
+use Rattle.feeds.specs.LineScan.{LineScan, unread, wrong, inWord, inTime, inTask, returned, isName, withName, timeAt, taskAt, afterTime}
+use Rattle.feeds.specs.LineScan.{afterTask, wordTab, wordByte, fieldByte, Heard, heardBad, heard, heardTime, heardTask, lineEnd, atStart}
+use Rattle.feeds.specs.LineScan.{afterReturn, atReturn, scanByte}
 use Rattle.feeds.specs.Bounds.{NumSmall, LineSmall}
 use Rattle.heard.specs.declared.Ended.{Ended}
 use Rattle.heard.specs.declared.Ended.the-variants as Ended·
@@ -126,9 +127,9 @@ nextTask low (heard t rises names set) = inTask t low rises names set 0 0
 
 -- at a tab within a number: what is heard there, and then the next task
 tab-next : (p k v t low : ℕ) (rises names : Bool) (s : TaskSet) → 1 ≤ p → p ≤ 2
-    → scanByte (phaseAs p k v t low rises names s) tabByte
+    → fieldByte (phaseAs p k v t low rises names s) tabByte
     ≡ nextTask (pick (eqb p 2) (v + 1) 0) (lineEnd (phaseAs p k v t low rises names s))
-unfolding scanByte lineEnd
+unfolding fieldByte lineEnd
 tab-next zero k v t low rises names s a b = absurd (omega arith)
 tab-next (suc zero) k v t low rises names s a b = go k
   where
@@ -146,21 +147,21 @@ tab-next (suc (suc (suc p))) k v t low rises names s a b = absurd (omega arith)
 -- what a field says at its end, and the state behind the tab
 module _ (s : Scan) (xs ys : List Bool) (n : InNumber s) (low : ℕ) (l : low ≡ pick (eqb (s .phase) 2) (s .value + 1) 0) (x : Ended)
     (e : endedAs x ys ≡ lineEnd (scanAs s xs)) where
-  behind : nextTask low (endedAs x ys) ≡ scanByte (scanAs s xs) tabByte
+  behind : nextTask low (endedAs x ys) ≡ fieldByte (scanAs s xs) tabByte
   behind =
       rw (e, l) (sym (tab-next (s .phase) (s .digits) (s .value) (s .time) (s .low) (s .rises) (s .names) (members xs) (n .from) (n .to)))
 
-  pub after-bad : x ≡ Ended·.Bad → wrong ≡ scanByte (scanAs s xs) tabByte
+  pub after-bad : x ≡ Ended·.Bad → wrong ≡ fieldByte (scanAs s xs) tabByte
   after-bad q = ap (λ (z : Ended). nextTask low (endedAs z ys)) (sym q) ∙ behind
 
   pub after-slot : (t : ℕ) (r m : Bool) → x ≡ Ended·.Slot t r m → inTask t low r m (members ys) 0 0
-      ≡ scanByte (scanAs s xs) tabByte
+      ≡ fieldByte (scanAs s xs) tabByte
   after-slot t r m q = ap (λ (z : Ended). nextTask low (endedAs z ys)) (sym q) ∙ behind
 
 -- ---- a number that goes on
 pub digit-more : (p k v t low : ℕ) (rises names : Bool) (s : TaskSet) (b : ℕ) → 1 ≤ p → p ≤ 2 → fits k v b ≡ true
-    → phaseAs p (k + 1) (v * 10 + (b - 48)) t low rises names s ≡ scanByte (phaseAs p k v t low rises names s) b
-unfolding scanByte numByte
+    → phaseAs p (k + 1) (v * 10 + (b - 48)) t low rises names s ≡ fieldByte (phaseAs p k v t low rises names s) b
+unfolding fieldByte numByte
 digit-more zero k v t low rises names s b x y e = absurd (omega arith)
 digit-more (suc zero) k v t low rises names s b x y e = rw (no-tab k v b e, e, add-one k)
 digit-more (suc (suc zero)) k v t low rises names s b x y e = rw (no-tab k v b e, e, add-one k)
@@ -168,16 +169,16 @@ digit-more (suc (suc (suc p))) k v t low rises names s b x y e = absurd (omega a
 
 pub number-wrong : (p k v t low : ℕ) (rises names : Bool) (s : TaskSet) (b : ℕ) → 1 ≤ p → p ≤ 2 → fits k v b ≡ false
     → (b ≡ tabByte → ⊥)
-    → wrong ≡ scanByte (phaseAs p k v t low rises names s) b
-unfolding scanByte numByte
+    → wrong ≡ fieldByte (phaseAs p k v t low rises names s) b
+unfolding fieldByte numByte
 number-wrong zero k v t low rises names s b x y e h = absurd (omega arith)
 number-wrong (suc zero) k v t low rises names s b x y e h = rw (ne-eqb b tabByte h, e)
 number-wrong (suc (suc zero)) k v t low rises names s b x y e h = rw (ne-eqb b tabByte h, e)
 number-wrong (suc (suc (suc p))) k v t low rises names s b x y e h = absurd (omega arith)
 
 -- ---- the word
-word-step : (k b : ℕ) → scanByte (wordAt k) b ≡ pick (eqb b tabByte) (wordTab (drop k slotWord)) (wordByte (drop k slotWord) b)
-unfolding scanByte
+word-step : (k b : ℕ) → fieldByte (wordAt k) b ≡ pick (eqb b tabByte) (wordTab (drop k slotWord)) (wordByte (drop k slotWord) b)
+unfolding fieldByte
 word-step zero b = refl
 word-step (suc k) b = refl
 
@@ -193,10 +194,10 @@ word-over (suc (suc (suc (suc k)))) h = none k
     none zero = refl
     none (suc k) = refl
 
-pub word-tab-here : (k b : ℕ) → 4 ≤ k → b ≡ tabByte → scanByte (wordAt k) b ≡ inTime 0 0
+pub word-tab-here : (k b : ℕ) → 4 ≤ k → b ≡ tabByte → fieldByte (wordAt k) b ≡ inTime 0 0
 word-tab-here k b h q = word-step k b ∙ rw (word-over k h, q)
 
-pub word-too-long : (k b : ℕ) → 4 ≤ k → (b ≡ tabByte → ⊥) → scanByte (wordAt k) b ≡ wrong
+pub word-too-long : (k b : ℕ) → 4 ≤ k → (b ≡ tabByte → ⊥) → fieldByte (wordAt k) b ≡ wrong
 word-too-long k b h q = word-step k b ∙ rw (word-over k h, ne-eqb b tabByte q)
 
 -- ---- by the phase
@@ -215,17 +216,19 @@ pub past-start : (p k v t low : ℕ) (rises names : Bool) (s : TaskSet) → (p �
 past-start zero k v t low rises names s h = absurd (h refl)
 past-start (suc zero) k v t low rises names s h = refl
 past-start (suc (suc zero)) k v t low rises names s h = refl
-past-start (suc (suc (suc p))) k v t low rises names s h = refl
+past-start (suc (suc (suc zero))) k v t low rises names s h = refl
+past-start (suc (suc (suc (suc p)))) k v t low rises names s h = refl
 
--- neither a time nor a task ends here
-pub word-ended : (p k v t low : ℕ) (rises names : Bool) (s : TaskSet) → (p ≡ 2 → ⊥) → (p ≡ 1 → ⊥)
+-- neither a time nor a task ends here, and no return stands
+pub word-ended : (p k v t low : ℕ) (rises names : Bool) (s : TaskSet) → (p ≡ 2 → ⊥) → (p ≡ 1 → ⊥) → p < 4
     → heardBad ≡ lineEnd (phaseAs p k v t low rises names s)
 unfolding lineEnd
-word-ended zero zero v t low rises names s a b = refl
-word-ended zero (suc k) v t low rises names s a b = refl
-word-ended (suc zero) k v t low rises names s a b = absurd (b refl)
-word-ended (suc (suc zero)) k v t low rises names s a b = absurd (a refl)
-word-ended (suc (suc (suc p))) k v t low rises names s a b = refl
+word-ended zero zero v t low rises names s a b h = refl
+word-ended zero (suc k) v t low rises names s a b h = refl
+word-ended (suc zero) k v t low rises names s a b h = absurd (b refl)
+word-ended (suc (suc zero)) k v t low rises names s a b h = absurd (a refl)
+word-ended (suc (suc (suc zero))) k v t low rises names s a b h = refl
+word-ended (suc (suc (suc (suc p)))) k v t low rises names s a b h = absurd (omega arith)
 
 pub time-ended : (p k v t low : ℕ) (rises names : Bool) (s : TaskSet) → p ≡ 1
     → heardTime (numEnd (numSoFar k v)) ≡ lineEnd (phaseAs p k v t low rises names s)
@@ -237,18 +240,52 @@ pub task-ended : (p k v t low : ℕ) (rises names : Bool) (s : TaskSet) → p �
 unfolding lineEnd
 task-ended p k v t low rises names s e = rw e
 
--- what is wrong stays wrong
+-- what is wrong stays wrong, and what a return ended becomes so
 pub wrong-on : (p k v t low : ℕ) (rises names : Bool) (s : TaskSet) (b : ℕ) → 3 ≤ p
-    → phaseAs p k v t low rises names s ≡ scanByte (phaseAs p k v t low rises names s) b
-unfolding scanByte
+    → wrong ≡ fieldByte (phaseAs p k v t low rises names s) b
+unfolding fieldByte
 wrong-on zero k v t low rises names s b h = absurd (omega arith)
 wrong-on (suc zero) k v t low rises names s b h = absurd (omega arith)
 wrong-on (suc (suc zero)) k v t low rises names s b h = absurd (omega arith)
-wrong-on (suc (suc (suc p))) k v t low rises names s b h = refl
+wrong-on (suc (suc (suc zero))) k v t low rises names s b h = refl
+wrong-on (suc (suc (suc (suc p)))) k v t low rises names s b h = refl
+
+-- ---- a return
+pub scan-other : (x : LineScan) (b : ℕ) → (b ≡ returnByte → ⊥) → fieldByte x b ≡ scanByte x b
+unfolding scanByte
+scan-other x b h = rw (ne-eqb b returnByte h)
+
+-- behind another
+pub return-twice : (p k v t low : ℕ) (rises names : Bool) (s : TaskSet) → 4 ≤ p
+    → (wrong ≡ scanByte (phaseAs p k v t low rises names s) returnByte)
+    × (heard t rises names s ≡ lineEnd (phaseAs p k v t low rises names s))
+unfolding scanByte atReturn lineEnd
+return-twice zero k v t low rises names s h = absurd (omega arith)
+return-twice (suc zero) k v t low rises names s h = absurd (omega arith)
+return-twice (suc (suc zero)) k v t low rises names s h = absurd (omega arith)
+return-twice (suc (suc (suc zero))) k v t low rises names s h = absurd (omega arith)
+return-twice (suc (suc (suc (suc p)))) k v t low rises names s h = (refl, refl)
+
+-- behind what was heard so far
+return-once : (p k v t low : ℕ) (rises names : Bool) (s : TaskSet) → p < 4
+    → afterReturn (lineEnd (phaseAs p k v t low rises names s)) ≡ scanByte (phaseAs p k v t low rises names s) returnByte
+unfolding scanByte atReturn lineEnd
+return-once zero zero v t low rises names s h = refl
+return-once zero (suc k) v t low rises names s h = refl
+return-once (suc zero) k v t low rises names s h = refl
+return-once (suc (suc zero)) k v t low rises names s h = refl
+return-once (suc (suc (suc zero))) k v t low rises names s h = refl
+return-once (suc (suc (suc (suc p)))) k v t low rises names s h = absurd (omega arith)
+
+-- what the line says before the return is what it is heard as
+pub return-heard : (s : Scan) (xs ys : List Bool) → s .phase < 4 → (x : Ended) → endedAs x ys ≡ lineEnd (scanAs s xs)
+    → afterReturn (endedAs x ys) ≡ scanByte (scanAs s xs) returnByte
+return-heard s xs ys h x e =
+    ap afterReturn e ∙ return-once (s .phase) (s .digits) (s .value) (s .time) (s .low) (s .rises) (s .names) (members xs) h
 
 -- the word goes on, or not
-pub in-word : (p k v t low : ℕ) (rises names : Bool) (s : TaskSet) (b : ℕ) (x : LineScan) → p ≡ 0 → scanByte (wordAt k) b ≡ x
-    → x ≡ scanByte (phaseAs p k v t low rises names s) b
+pub in-word : (p k v t low : ℕ) (rises names : Bool) (s : TaskSet) (b : ℕ) (x : LineScan) → p ≡ 0 → fieldByte (wordAt k) b ≡ x
+    → x ≡ fieldByte (phaseAs p k v t low rises names s) b
 in-word p k v t low rises names s b x e q = rw e (sym q)
 
 pub word-next : (p k v t low : ℕ) (rises names : Bool) (s : TaskSet) → p ≡ 0 → phaseAs p k v t low rises names s ≡ wordAt k
@@ -260,14 +297,14 @@ either true q = refl
 either false q = q
 
 -- the four letters, one by one
-pub word-on : (k b : ℕ) → k < 4 → b ≡ getD slotWord k 0 → scanByte (wordAt k) b ≡ wordAt (k + 1)
+pub word-on : (k b : ℕ) → k < 4 → b ≡ getD slotWord k 0 → fieldByte (wordAt k) b ≡ wordAt (k + 1)
 word-on zero b l e = rw e (word-step 0 _)
 word-on (suc zero) b l e = rw e (word-step 1 _)
 word-on (suc (suc zero)) b l e = rw e (word-step 2 _)
 word-on (suc (suc (suc zero))) b l e = rw e (word-step 3 _)
 word-on (suc (suc (suc (suc k)))) b l e = absurd (omega arith)
 
-pub word-other : (k b : ℕ) → k < 4 → (b ≡ getD slotWord k 0 → ⊥) → scanByte (wordAt k) b ≡ wrong
+pub word-other : (k b : ℕ) → k < 4 → (b ≡ getD slotWord k 0 → ⊥) → fieldByte (wordAt k) b ≡ wrong
 word-other zero b l h = word-step 0 b ∙ either (eqb b tabByte) (rw (ne-eqb b 115 h))
 word-other (suc zero) b l h = word-step 1 b ∙ either (eqb b tabByte) (rw (ne-eqb b 108 h))
 word-other (suc (suc zero)) b l h = word-step 2 b ∙ either (eqb b tabByte) (rw (ne-eqb b 111 h))

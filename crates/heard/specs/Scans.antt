@@ -8,7 +8,7 @@ use Rattle.rules.specs.Slot.{TaskSet}
 use Rattle.rules.specs.Log.{slotWord}
 use Rattle.lists.specs.Lists.{members}
 use Rattle.feeds.specs.NumScan.{numSoFar}
-use Rattle.feeds.specs.LineScan.{LineScan, unread, wrong, inWord, inTime, inTask, Heard, heardBad, heard}
+use Rattle.feeds.specs.LineScan.{LineScan, unread, wrong, inWord, inTime, inTask, returned, Heard, heardBad, heard}
 use Rattle.feeds.specs.Bounds.{NumSmall}
 use Rattle.heard.specs.declared.Scan.{Scan}
 use Rattle.heard.specs.declared.Ended.{Ended}
@@ -19,12 +19,13 @@ abbrev pub wordAt : ℕ → LineScan
 wordAt zero = unread
 wordAt (suc k) = inWord (drop (suc k) slotWord)
 
--- the phases: word, time, task, and wrong from then on
+-- the phases: word, time, task, wrong, and returned from then on
 abbrev pub phaseAs : ℕ → ℕ → ℕ → ℕ → ℕ → Bool → Bool → TaskSet → LineScan
 phaseAs zero k v t low rises names set = wordAt k
 phaseAs (suc zero) k v t low rises names set = inTime k v
 phaseAs (suc (suc zero)) k v t low rises names set = inTask t low rises names set k v
-phaseAs (suc (suc (suc p))) k v t low rises names set = wrong
+phaseAs (suc (suc (suc zero))) k v t low rises names set = wrong
+phaseAs (suc (suc (suc (suc p)))) k v t low rises names set = returned t rises names set
 
 abbrev pub scanAs : Scan → List Bool → LineScan
 scanAs s xs = phaseAs (s .phase) (s .digits) (s .value) (s .time) (s .low) (s .rises) (s .names) (members xs)

@@ -7,11 +7,11 @@ ghost use lib.Dec.{eqb};
 ghost use lib.ListN.{length, getD};
 ghost use Rattle.rules.specs.Words.{pick};
 ghost use Rattle.rules.specs.Limits.{maxTasks};
-ghost use Rattle.rules.specs.Text.{tabByte};
+ghost use Rattle.rules.specs.Text.{returnByte, tabByte};
 ghost use Rattle.rules.specs.Log.{slotWord};
 ghost use Rattle.lists.specs.Lists.{members};
 ghost use Rattle.feeds.specs.NumScan.{fits, numSoFar, numEnd};
-ghost use Rattle.feeds.specs.LineScan.{isName, withName, scanByte, heardTime, heardTask, lineEnd, atStart};
+ghost use Rattle.feeds.specs.LineScan.{isName, withName, fieldByte, scanByte, heardTime, heardTask, lineEnd, atStart};
 ghost use Rattle.feeds.specs.Bounds.{LineSmall};
 ghost use Rattle.heard.specs.Scans.{InNumber, startOf, scanAs, endedAs};
 ghost use Rattle.heard.specs.Lines.{inLine, digitFits, NumberSmall, Goes, HeardLine};
@@ -19,7 +19,8 @@ use rules::MAX_TASKS;
 
 // How far a line is heard: its phase, and what that phase goes by: the bytes of the word that were read, or the digits of a number and
 // what they are worth; of the tasks the time before them, the least number that would rise, and whether all before rise and are tasks.
-// A struct and not an enum: the fields stay in registers from byte to byte.
+// Behind a return the time is that of the line, and all its tasks are those before. A struct and not an enum: the fields stay in registers
+// from byte to byte.
 pub struct Scan {
     pub phase: u32,
     pub digits: u32,
@@ -30,7 +31,8 @@ pub struct Scan {
     pub names: bool,
 }
 
-// The phases of a line: its word, its time, its tasks; or that it cannot become a line any more.
+// The phases of a line: its word, its time, its tasks; that it cannot become a line any more; that it is one, and a return stands behind
+// it.
 const WORD: u32 = 0;
 
 const TIME: u32 = 1;
@@ -38,6 +40,8 @@ const TIME: u32 = 1;
 const TASK: u32 = 2;
 
 const WRONG: u32 = 3;
+
+const RETURNED: u32 = 4;
 
 // What a line says at its end, beside the set of the tasks that it names.
 pub enum Ended {
@@ -146,7 +150,7 @@ fn end_task(s: Scan, named: &mut [bool; MAX_TASKS]) -> Ended
     }
 }
 
-// What the line says where its field ends here.
+// What the line says where its field ends here, or its return stands.
 pub fn line_end(s: Scan, named: &mut [bool; MAX_TASKS]) -> Ended
     requires { ⌜ length (now named) ≡ maxTasks ⌝ }
     ensures { λ r. ⌜ (length (now (named .exit)) ≡ maxTasks)
@@ -161,7 +165,14 @@ pub fn line_end(s: Scan, named: &mut [bool; MAX_TASKS]) -> Ended
     if phase == TIME {
         return end_time(digits, value, named);
     }
-    Ended::Bad
+    if phase < RETURNED {
+        return Ended::Bad;
+    }
+    Ended::Slot {
+        time: s.time,
+        rises: s.rises,
+        names: s.names,
+    }
 }
 
 // ---- a byte more
@@ -209,7 +220,7 @@ fn letter(place: u32) -> u8
 // A byte within the word, or the tab behind it.
 fn word_byte(s: Scan, b: u8) -> Scan
     requires { ⌜ s .phase ≡ 0 ⌝ }
-    ensures { λ r. ⌜ ((xs : List Bool) → scanAs r xs ≡ scanByte (scanAs s xs) b) ⌝ }
+    ensures { λ r. ⌜ ((xs : List Bool) → scanAs r xs ≡ fieldByte (scanAs s xs) b) ⌝ }
 {
     let read = s.digits;
     if 4 <= read {
@@ -245,7 +256,7 @@ fn after_field(s: Scan, named: &mut [bool; MAX_TASKS]) -> Scan
     requires { ⌜ InNumber s ⌝ }
     requires { ⌜ length (now named) ≡ maxTasks ⌝ }
     ensures { λ r. ⌜ (length (now (named .exit)) ≡ maxTasks)
-        × (scanAs r (now (named .exit)) ≡ scanByte (scanAs s (now (named .entry))) tabByte) ⌝ }
+        × (scanAs r (now (named .exit)) ≡ fieldByte (scanAs s (now (named .entry))) tabByte) ⌝ }
 {
     let phase = s.phase;
     let value = s.value;
@@ -270,7 +281,7 @@ fn number_byte(s: Scan, b: u8, named: &mut [bool; MAX_TASKS]) -> Scan
     requires { ⌜ InNumber s ⌝ }
     requires { ⌜ length (now named) ≡ maxTasks ⌝ }
     ensures { λ r. ⌜ (length (now (named .exit)) ≡ maxTasks)
-        × (scanAs r (now (named .exit)) ≡ scanByte (scanAs s (now (named .entry))) b) ⌝ }
+        × (scanAs r (now (named .exit)) ≡ fieldByte (scanAs s (now (named .entry))) b) ⌝ }
 {
     let digits = s.digits;
     let value = s.value;
@@ -288,6 +299,30 @@ fn number_byte(s: Scan, b: u8, named: &mut [bool; MAX_TASKS]) -> Scan
     Scan { phase: WRONG, ..s }
 }
 
+// A return: behind a time or a task the line is heard, and only its newline may follow.
+fn at_return(s: Scan, named: &mut [bool; MAX_TASKS]) -> Scan
+    requires { ⌜ length (now named) ≡ maxTasks ⌝ }
+    ensures { λ r. ⌜ (length (now (named .exit)) ≡ maxTasks)
+        × (scanAs r (now (named .exit)) ≡ scanByte (scanAs s (now (named .entry))) returnByte) ⌝ }
+{
+    let phase = s.phase;
+    let lost = Scan { phase: WRONG, ..s };
+    if RETURNED <= phase {
+        return lost;
+    }
+    let ended = line_end(s, named);
+    let Ended::Slot { time, rises, names } = ended else {
+        return lost;
+    };
+    Scan {
+        phase: RETURNED,
+        time: time,
+        rises: rises,
+        names: names,
+        ..s
+    }
+}
+
 // One more byte of a line, which is no newline.
 fn scan_byte(s: Scan, b: u8, named: &mut [bool; MAX_TASKS]) -> Scan
     requires { ⌜ LineSmall (scanAs s (now named)) ⌝ }
@@ -296,11 +331,14 @@ fn scan_byte(s: Scan, b: u8, named: &mut [bool; MAX_TASKS]) -> Scan
         × (scanAs r (now (named .exit)) ≡ scanByte (scanAs s (now (named .entry))) b) ⌝ }
 {
     let phase = s.phase;
+    if b == b'\r' {
+        return at_return(s, named);
+    }
     if phase == WORD {
         return word_byte(s, b);
     }
     if WRONG <= phase {
-        return s;
+        return Scan { phase: WRONG, ..s };
     }
     number_byte(s, b, named)
 }
@@ -360,7 +398,7 @@ fn scan_number(s: Scan, piece: &[u8], from: usize, at: &mut usize) -> Scan
     if phase == WORD {
         return s;
     }
-    if WRONG <= phase {
+    if TASK < phase {
         return s;
     }
     scan_digits(s, piece, from, at)

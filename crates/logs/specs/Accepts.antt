@@ -1,5 +1,5 @@
 -- Request P2's promises, said of logs as bytes: our own log is accepted; for an accepted EDF-CF log parts 1 and 2 of demand 3 hold; an
--- accepted log that takes the lower task on every tie is our own.
+-- accepted log that takes the lower task on every tie is our own but for its returns.
 use mathlib.Core.Path.{_≡_, refl, sym, ap, _∙_}
 use mathlib.Core.Bool.{true}
 use mathlib.Core.List.{List, []}
@@ -7,6 +7,7 @@ use Prim.Native.Nat.{ℕ, _≤_, _<_}
 use native.Mathlib.Omega.{arith}
 use Rattle.rules.specs.Limits.{maxTasks}
 use Rattle.rules.specs.Words.{countIn, tab}
+use Rattle.rules.specs.Text.{withoutReturns}
 use Rattle.rules.specs.Writer.{joinedText}
 use Rattle.rules.specs.Case.{Case, deadline, releaseCount, timeOf}
 use Rattle.rules.specs.Counts.{freeCount}
@@ -71,12 +72,12 @@ pub lower-sets-own : (c : Case) (s : List ℕ) → LogAccepted c s → LowerOnTi
     → setsOf (logLines s) t i ≡ ranAt c t i
 lower-sets-own c s e low t i h l = lower-own c (setsOf (logLines s)) (c .end) (accepted-follows c s e) low t i h l
 
--- and is our own log, byte for byte
-pub lower-log-own : (c : Case) (s : List ℕ) → LogAccepted c s → LowerOnTies c s → s ≡ ownLog c
+-- and without its returns it is our own log, byte for byte
+pub lower-log-own : (c : Case) (s : List ℕ) → LogAccepted c s → LowerOnTies c s → withoutReturns s ≡ ownLog c
 unfolding ownLog
 lower-log-own c s e low = accepted-bytes c s e ∙ text-same (setsOf (logLines s)) (ranAt c) (c .end) (lower-sets-own c s e low)
 
--- our own log takes the lower task on every tie: so it is the one accepted log that does
+-- our own log takes the lower task on every tie: so it is the one accepted log that does, returns apart
 pub own-log-lower : (c : Case) → Accepted c → LowerOnTies c (ownLog c)
 unfolding ownLog
 own-log-lower c ok t h j i l k p w e same due =

@@ -1,5 +1,6 @@
--- Acceptance is exact, both ways: an accepted log is, byte for byte, the lines of its own sets, one line a slot before the end, and these
--- keep the rule with the state following them; and the lines of any such sets are an accepted log.
+-- Acceptance is exact, both ways: an accepted log is, byte for byte but for its returns, the lines of its own sets, one line a slot before
+-- the end, and these keep the rule with the state following them; and the lines of any such sets, with or without returns before their
+-- newlines, are an accepted log.
 use mathlib.Core.Path.{_≡_, refl, sym, ap, ap₂, _∙_}
 use mathlib.Core.Bool.{Bool, true, false, _&&_, false≢true}
 use mathlib.Core.List.{List, [], _∷_}
@@ -11,13 +12,14 @@ use borrow.Author.Tests.{eqb-true, eq-eqb}
 use Rattle.rules.specs.Limits.{maxTasks}
 use Rattle.rules.specs.declared.Run.{Run}
 use Rattle.rules.specs.Words.{tab}
+use Rattle.rules.specs.Text.{returnByte, has, withoutReturns}
 use Rattle.rules.specs.Writer.{joinedText}
 use Rattle.rules.specs.Case.{Case}
 use Rattle.rules.specs.Refusals.{Accepted}
 use Rattle.rules.specs.Slot.{TaskSet}
 use Rattle.rules.specs.Replay.{setupIn}
 use Rattle.rules.specs.Log.{LogLine, badLine, slotLine, tasksOf, rising, wellFormed, keepsRule, setNamed, nameTasks, slotStands}
-use Rattle.rules.specs.Log.{openedBy, lineAt, setsOf, logLines, LogAccepted, slotLineText, logText}
+use Rattle.rules.specs.Log.{openedBy, lineAt, setsOf, logLines, logFault, LogAccepted, slotLineText, logText}
 use Rattle.rules.specs.Slot.{tasksIn}
 use Rattle.legal.specs.Legal.{legal}
 use Rattle.lists.specs.Tests.{and-left, and-right}
@@ -28,7 +30,8 @@ use Rattle.logs.specs.Rule.{Obeys, rule-obeyed, obeys-rule, obeys-same}
 use Rattle.logs.specs.Follow.{Follows, opened-same}
 use Rattle.logs.specs.Named.{named-tasks, tasks-rise, tasks-named, tasks-back, tasks-small}
 use Rattle.logs.specs.SlotLine.{Small}
-use Rattle.logs.specs.LogLines.{Says, log-written, log-back, all-at, list-tab, bytesOfAll, bytes-tab}
+use Rattle.logs.specs.LogLines.{Says, log-written, log-back, log-no-return, log-without, all-at, list-tab, bytesOfAll}
+use Rattle.logs.specs.LogLines.{bytes-tab}
 use Rattle.logs.specs.Clear.{Lined, accepted-lined, lined-accepted}
 
 -- ---- the lines of sets that keep the rule are accepted
@@ -122,21 +125,22 @@ module _ (c : Case) (ls : List LogLine) (l : Lined c ls) where
   pub lined-says : All Says ls
   lined-says = all-at Says ls (λ n h. line-says n (lineAt ls n) (l .formed n (omega (arith, l .long))))
 
--- an accepted log is of an accepted case; its sets keep the rule; and it is their lines, byte for byte
+-- an accepted log is of an accepted case; its sets keep the rule; and without its returns it is their lines, byte for byte
 pub accepted-follows : (c : Case) (s : List ℕ) → LogAccepted c s → Follows c (setsOf (logLines s)) (c .end)
 accepted-follows c s e = lined-follows c (logLines s) (accepted-lined c s e .1)
 
-pub accepted-bytes : (c : Case) (s : List ℕ) → LogAccepted c s → s ≡ logText (setsOf (logLines s)) (c .end)
+pub accepted-bytes : (c : Case) (s : List ℕ) → LogAccepted c s → withoutReturns s ≡ logText (setsOf (logLines s)) (c .end)
 accepted-bytes c s e =
     let l = accepted-lined c s e .1 in
     sym (log-back s (lined-says c (logLines s) l)) ∙ lined-bytes c (logLines s) l
 
 -- ---- both ways
--- the log is, line by line, the lines of some sets, one for each slot before the end, each keeping the rule with the state following them
+-- the log is, line by line and but for its returns, the lines of some sets, one for each slot before the end, each keeping the rule with
+-- the state following them
 pub record LogOf (c : Case) (s : List ℕ) : Type 0 where
   pub works : ℕ → TaskSet
   pub follows : Follows c works (c .end)
-  pub bytes : s ≡ logText works (c .end)
+  pub bytes : withoutReturns s ≡ logText works (c .end)
 
 -- an accepted log is so written
 pub accepted-written : (c : Case) (s : List ℕ) → LogAccepted c s → Accepted c × LogOf c s
@@ -145,4 +149,8 @@ accepted-written c s e =
 
 -- and what is so written is accepted
 pub written-accepted : (c : Case) (s : List ℕ) → Accepted c → LogOf c s → LogAccepted c s
-written-accepted c s ok w = rw (w .bytes) (follows-accepted c (w .works) ok (w .follows))
+unfolding LogAccepted logFault
+written-accepted c s ok w = rw (log-without s (rw (w .bytes) none), w .bytes) (follows-accepted c (w .works) ok (w .follows))
+  where
+    none : has returnByte (logText (w .works) (c .end)) ≡ false
+    none = unfold logText in log-no-return (λ t. tasksIn (w .works t)) 0 (c .end)

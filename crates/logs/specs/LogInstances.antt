@@ -12,8 +12,8 @@ use Rattle.rules.specs.Refusals.{lastBefore, releaseFault, absentFault, caseFau
 use Rattle.rules.specs.Answers.{Answer, refusal, result, settled}
 use Rattle.rules.specs.Slot.{present, judged, joined, demoted, jobsNow, contentionFree, lowered, opened, worked}
 use Rattle.rules.specs.Replay.{releasedIn}
-use Rattle.rules.specs.Text.{same, upTo, past, has, lineOf, afterLine, fieldOf, afterField, allDigits, noLeadingZero, isNumber, worth}
-use Rattle.rules.specs.Text.{linesBy, numberIn, digitsIn, digitsOf}
+use Rattle.rules.specs.Text.{same, upTo, past, has, lineReturn, lineOf, afterLine, fieldOf, afterField, allDigits, noLeadingZero}
+use Rattle.rules.specs.Text.{isNumber, worth, linesBy, numberIn, digitsIn, digitsOf}
 use Rattle.rules.specs.Writer.{moreFields, lineText}
 use Rattle.rules.specs.Log.{slotWord, fieldsIn, fieldsOf, withNumbers, slotSays, logLines, risePast, rising, wellFormed}
 use Rattle.rules.specs.Log.{keepsRule, setNamed, nameTasks, slotStands, followed, setsOf, lineFault, linesFaultIn, logFault, logAnswer}
@@ -76,6 +76,17 @@ pub record Computed : Type 0 where
       × (ofA (115 ∷ odd (9 ∷ 48 ∷ 10 ∷ [])) ≡ refusal 17 1)
       × (ofA (two 0 2 3 ++ (10 ∷ [])) ≡ refusal 17 2)
       × (ofA (two 0 2 3 ++ odd (9 ∷ 49 ∷ [])) ≡ refusal 17 2)
+  -- one return before a newline goes, in some lines or in all; a return alone is the empty line
+  pub returns : (ofA (two 0 2 3 ++ odd (9 ∷ 49 ∷ 9 ∷ 49 ∷ 9 ∷ 51 ∷ 13 ∷ 10 ∷ [])) ≡ result [])
+      × (ofA (odd (9 ∷ 48 ∷ 13 ∷ 10 ∷ [])) ≡ refusal 18 1)
+      × (ofA (two 0 2 3 ++ (13 ∷ 10 ∷ [])) ≡ refusal 17 2)
+  -- 17: two of them, one within a field, one before a field, one behind the word, one that no newline follows, alone or behind a line
+  pub returns-elsewhere : (ofA (odd (9 ∷ 48 ∷ 9 ∷ 50 ∷ 9 ∷ 51 ∷ 13 ∷ 13 ∷ 10 ∷ [])) ≡ refusal 17 1)
+      × (ofA (odd (9 ∷ 48 ∷ 9 ∷ 50 ∷ 9 ∷ 51 ∷ 13 ∷ 51 ∷ 10 ∷ [])) ≡ refusal 17 1)
+      × (ofA (odd (9 ∷ 48 ∷ 9 ∷ 13 ∷ 50 ∷ 9 ∷ 51 ∷ 10 ∷ [])) ≡ refusal 17 1)
+      × (ofA (odd (13 ∷ 9 ∷ 48 ∷ 9 ∷ 50 ∷ 9 ∷ 51 ∷ 10 ∷ [])) ≡ refusal 17 1)
+      × (ofA (two 0 2 3 ++ (two 1 1 3 ++ (13 ∷ []))) ≡ refusal 17 3)
+      × (ofA (two 0 2 3 ++ odd (9 ∷ 49 ∷ 9 ∷ 49 ∷ 9 ∷ 51 ∷ 13 ∷ [])) ≡ refusal 17 2)
   -- lines at and past the end are read for their form alone: then 19; but a later line badly formed comes before 19. Too few lines are
   -- 19 too; what the replay refuses comes first
   pub past-end : (ofA (two 0 2 3 ++ (two 1 1 3 ++ one 2 9)) ≡ refusal 19 0)
@@ -88,7 +99,7 @@ pub record Computed : Type 0 where
 pub computed : Computed
 unfolding logAnswer settled logFault caseFault orNext firstOf procsFault policyFault tableFault taskFault endFault traceFault inOrder
     lastBefore releaseFault absentFault linesFaultIn lineFault logLines linesBy slotSays fieldsOf fieldsIn withNumbers same upTo past
-    has lineOf afterLine fieldOf afterField allDigits noLeadingZero isNumber worth numberIn wellFormed rising risePast slotStands
+    has lineReturn lineOf afterLine fieldOf afterField allDigits noLeadingZero isNumber worth numberIn wellFormed rising risePast slotStands
     nameTasks setNamed keepsRule holdsBelow followed setsOf sum tab mapFrom availability availabilities count freeCount present judged
     joined demoted jobsNow contentionFree lowered opened worked releasedIn slotLineText lineText moreFields digitsOf digitsIn
 computed = record {
@@ -99,5 +110,7 @@ computed = record {
   names = (refl, refl, refl, refl);
   order = (refl, refl, refl, refl);
   forms = (refl, refl, refl, refl, refl, refl);
+  returns = (refl, refl, refl);
+  returns-elsewhere = (refl, refl, refl, refl, refl, refl);
   past-end = (refl, refl, refl, refl, refl, refl);
 }

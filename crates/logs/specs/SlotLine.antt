@@ -1,21 +1,20 @@
 -- One line of a log (`slotSays`, `slotLineText` of rules, Log): what is written of a time and tasks says these, and a line that is not
--- badly
--- formed is just the bytes that are written of what it says. For LogLines.
+-- badly formed is just the bytes that are written of what it says. For LogLines.
 use mathlib.Core.Path.{_≡_, refl, sym, ap, _∙_}
-use mathlib.Core.Bool.{Bool, true, false}
+use mathlib.Core.Bool.{Bool, true, false, true≢false}
 use mathlib.Core.List.{List, [], _∷_, _++_, map}
 use Prim.Native.Nat.{ℕ, zero, suc, _+_, _^_, _≤_, _<_}
 use native.Mathlib.Omega.{arith}
 use lib.ListN.{length, length-append}
 use Rattle.rules.specs.Words.{pick}
-use Rattle.rules.specs.Text.{newlineByte, tabByte, same, has, fieldOf, afterField, numberIn, digitsOf}
+use Rattle.rules.specs.Text.{newlineByte, returnByte, tabByte, same, has, fieldOf, afterField, numberIn, digitsOf}
 use Rattle.rules.specs.Writer.{lineText}
 use Rattle.rules.specs.Log.{LogLine, badLine, slotLine, slotWord, fieldsIn, fieldsOf, withValue, withNumbers, timeAndTasks, slotFields}
 use Rattle.rules.specs.Log.{slotSays, slotLineText}
 use Rattle.lists.specs.Lists.{picked}
 use Rattle.texts.specs.Digits.{written-reads, reads-written}
 use Rattle.texts.specs.Fields.{All, Plain, same-true, upTo-seam, past-seam, has-seam, cut-at, digits-plain, parted, line-parted}
-use Rattle.texts.specs.Fields.{parted-no-newline}
+use Rattle.texts.specs.Fields.{without-append, parted-no-newline, parted-no-return}
 
 -- ---- the bytes of a line without its newline
 abbrev pub slotBody : ℕ → List ℕ → List ℕ
@@ -27,7 +26,7 @@ slot-body t ns = line-parted slotWord (map digitsOf (t ∷ ns))
 
 word-plain : Plain slotWord
 unfolding has
-word-plain = record { no-tab = refl; no-newline = refl }
+word-plain = record { no-tab = refl; no-newline = refl; no-return = refl }
 
 all-plain : (ns : List ℕ) → All Plain (map digitsOf ns)
 unfolding All
@@ -37,6 +36,14 @@ all-plain (n ∷ ns) = (digits-plain n, all-plain ns)
 -- it has no newline
 pub body-no-newline : (t : ℕ) (ns : List ℕ) → has newlineByte (slotBody t ns) ≡ false
 body-no-newline t ns = parted-no-newline slotWord (map digitsOf (t ∷ ns)) word-plain (all-plain (t ∷ ns))
+
+-- and no return, nor with its newline
+pub body-no-return : (t : ℕ) (ns : List ℕ) → has returnByte (slotBody t ns) ≡ false
+body-no-return t ns = parted-no-return slotWord (map digitsOf (t ∷ ns)) word-plain (all-plain (t ∷ ns))
+
+pub line-no-return : (t : ℕ) (ns : List ℕ) → has returnByte (slotLineText t ns) ≡ false
+unfolding has
+line-no-return t ns = rw (slot-body t ns) (without-append returnByte (slotBody t ns) (newlineByte ∷ []) (body-no-return t ns) refl)
 
 -- ---- written, then read
 fields-written : (k : ℕ) (f : List ℕ) (fs : List (List ℕ)) → length fs ≤ k → Plain f → All Plain fs
@@ -102,3 +109,8 @@ slot-read P s bad good = fields-read (length s) s (λ l. P (slotFields l)) (λ w
         → P (timeAndTasks vs)
     told w fs [] e q z = bad
     told w fs (t ∷ ns) e q z = good t ns (e ∙ rw (q, z))
+
+-- a return that is handed back with the line makes it badly formed
+pub slot-return-bad : (s : List ℕ) → has returnByte s ≡ true → slotSays s ≡ badLine
+slot-return-bad s h = slot-read (λ l. l ≡ badLine) s refl
+    (λ t ns e. absurd (true≢false (sym h ∙ ap (has returnByte) e ∙ body-no-return t ns)))

@@ -1,6 +1,6 @@
--- The round trip (document 01, "The case text") in the words of the public calls: what the reader answers to what the writer wrote, and
--- what the writer writes of what the reader read, for any answers that keep the promises of the calls (rules, Calls). Asked is only
--- that the first call gave a result and that the second has room.
+-- The round trip (document 01, "The case text", and request P4) in the words of the public calls: what the reader answers to what the
+-- writer wrote, and what the writer writes of what the reader read, for any answers that keep the promises of the calls (rules, Calls).
+-- Asked is only that the first call gave a result and that the second has room.
 use mathlib.Core.Path.{_≡_, sym, ap, ap₂, _∙_, subst}
 use mathlib.Core.List.{List, [], _∷_, _++_}
 use Prim.Native.Nat.{ℕ, _+_, _*_, _≤_}
@@ -13,6 +13,7 @@ use Rattle.rules.specs.Case.{Case, caseOf, taskCount, releaseCount}
 use Rattle.rules.specs.Refusals.{roomFault, caseFault, Accepted}
 use Rattle.rules.specs.Answers.{result, takenAs, writtenAs}
 use Rattle.rules.specs.Calls.{ReadPromise, WritePromise}
+use Rattle.rules.specs.Text.{withoutReturns}
 use Rattle.rules.specs.Reader.{caseIn, textFault, readFault, caseValues, readAnswer, readTasks, readReleases}
 use Rattle.rules.specs.Writer.{caseText, writeFault, writeAnswer, writeBytes}
 use Rattle.lists.specs.Lists.{take-first}
@@ -88,14 +89,14 @@ read-written c room n tasks releases h p q =
     rw text (subst (ReadAs (caseText c) tasks releases) same
     (read-as (caseText c) tasks releases (rw (read-roomy (caseText c) _ _ p q, no-fault-written c e)) (rw same (legal c e))))
 
--- what a text with its policy line takes up: a room of 60,000 bytes is always enough
-pub with-policy-fits : (s : List ℕ) → textFault s .number ≡ 0 → length (withPolicy s) ≤ maxText
+-- what a text with its policy line and without its returns takes up: a room of 60,000 bytes is always enough
+pub with-policy-fits : (s : List ℕ) → textFault s .number ≡ 0 → length (withPolicy (withoutReturns s)) ≤ maxText
 with-policy-fits s h = rw (text-read s h) at (text-fits (caseIn s) (case-accepted s h))
 
 write-read : (s tasks releases vs room : List ℕ)
     → readAnswer s tasks releases ≡ result vs
-    → length (withPolicy s) ≤ length room
-    → WrittenAs (inHand vs (readTasks s tasks releases) (readReleases s tasks releases)) room (withPolicy s)
+    → length (withPolicy (withoutReturns s)) ≤ length room
+    → WrittenAs (inHand vs (readTasks s tasks releases) (readReleases s tasks releases)) room (withPolicy (withoutReturns s))
 unfolding readAnswer
 write-read s tasks releases vs room h p =
     let a = settled-result (readFault s (length tasks) (length releases)) (caseValues (caseIn s)) vs h in
@@ -140,13 +141,13 @@ read-what-was-written c bytes w later n tasks releases r ts rs wrote said p q pr
       in-hand = ap₂ (inHand (caseValues c)) (kept .left-tasks) (kept .left-releases) ∙ a .in-hand;
     }
 
--- writing what was read gives the same text, but for the policy line where it was absent
+-- writing what was read gives the text with its policy line where it was absent and without its returns
 pub written-what-was-read : (s tasks releases : List ℕ) (r : Taken) (ts rs vs bytes : List ℕ) (w : Written) (later : List ℕ)
     → ReadPromise s tasks releases r ts rs
     → takenAs r ≡ result vs
-    → length (withPolicy s) ≤ length bytes
+    → length (withPolicy (withoutReturns s)) ≤ length bytes
     → WritePromise (inHand vs ts rs) bytes w later
-    → Wrote (withPolicy s) bytes w later
+    → Wrote (withPolicy (withoutReturns s)) bytes w later
 written-what-was-read s tasks releases r ts rs vs bytes w later read said p promise =
     let a = write-read s tasks releases vs bytes (sym (read .answer) ∙ said) p in
     let same : inHand vs ts rs ≡ inHand vs (readTasks s tasks releases) (readReleases s tasks releases) =

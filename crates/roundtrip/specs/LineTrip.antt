@@ -1,15 +1,16 @@
 -- One line (`lineSays` of rules, Reader, and the lines of rules, Writer): what the writer writes of what a line says reads as that again,
 -- and a line that is not badly formed is just the bytes that the writer writes of what it says. Lines takes this to whole texts.
 use mathlib.Core.Path.{_≡_, refl, sym, ap, _∙_}
-use mathlib.Core.Bool.{true}
+use mathlib.Core.Bool.{true, false, true≢false}
+use mathlib.Core.Logic.{_⊎_, inl, inr}
 use mathlib.Core.List.{List, [], _∷_, _++_}
 use Prim.Native.Nat.{ℕ, _^_, _≤_, _<_}
 use native.Mathlib.Omega.{arith}
 use lib.ListN.{length}
 use Rattle.rules.specs.declared.Line.{Line}
 use Rattle.rules.specs.declared.Line.the-variants.{Bad, Procs, Policy, Row, End, Release}
-use Rattle.rules.specs.Text.{newlineByte, tabByte, same, has, fieldOf, afterField, digitsOf, procsWord, policyWord, taskWord, endWord}
-use Rattle.rules.specs.Text.{releaseWord}
+use Rattle.rules.specs.Text.{newlineByte, returnByte, tabByte, same, has, fieldOf, afterField, digitsOf, procsWord, policyWord, taskWord}
+use Rattle.rules.specs.Text.{endWord, releaseWord}
 use Rattle.rules.specs.Policies.{maxPolicy, policyName}
 use Rattle.rules.specs.Reader.{withNumber, oneNumber, twoNumbers, threeNumbers, policyIn, wordKind, fieldsSay, lineSays, kindOf}
 use Rattle.rules.specs.Writer.{lineText}
@@ -17,6 +18,7 @@ use Rattle.lists.specs.Lists.{picked}
 use Rattle.texts.specs.Digits.{digits-some, written-reads, reads-written}
 use Rattle.texts.specs.PolicyNames.{name-plain, name-some, name-found, name-read}
 use Rattle.texts.specs.Fields.{same-true, upTo-seam, upTo-none, past-seam, Plain, digits-plain, parted, All, line-parted, parted-cons}
+use Rattle.texts.specs.Fields.{without-append, without-parts, parted-no-return}
 
 -- ---- what is written of what a line says
 -- its word
@@ -52,15 +54,24 @@ bytes-body l = line-parted (wordIn l) (fieldsIn l)
 unfoldable pub Said : Line → Type 0
 Said l = kindOf l ≡ 0 → ⊥
 
--- ---- neither tab nor newline stands in a word or a field
+said-or-bad : (l : Line) → Said l ⊎ (l ≡ Bad)
+unfolding Said
+said-or-bad Bad = inr refl
+said-or-bad (Procs m) = inl (λ e. omega arith)
+said-or-bad (Policy p) = inl (λ e. omega arith)
+said-or-bad (Row T C D) = inl (λ e. omega arith)
+said-or-bad (End e) = inl (λ e. omega arith)
+said-or-bad (Release t n) = inl (λ e. omega arith)
+
+-- ---- no tab, no newline and no return stands in a word or a field
 pub word-plain : (l : Line) → Plain (wordIn l)
 unfolding wordIn has
-word-plain Bad = record { no-tab = refl; no-newline = refl }
-word-plain (Procs m) = record { no-tab = refl; no-newline = refl }
-word-plain (Policy p) = record { no-tab = refl; no-newline = refl }
-word-plain (Row T C D) = record { no-tab = refl; no-newline = refl }
-word-plain (End e) = record { no-tab = refl; no-newline = refl }
-word-plain (Release t n) = record { no-tab = refl; no-newline = refl }
+word-plain Bad = record { no-tab = refl; no-newline = refl; no-return = refl }
+word-plain (Procs m) = record { no-tab = refl; no-newline = refl; no-return = refl }
+word-plain (Policy p) = record { no-tab = refl; no-newline = refl; no-return = refl }
+word-plain (Row T C D) = record { no-tab = refl; no-newline = refl; no-return = refl }
+word-plain (End e) = record { no-tab = refl; no-newline = refl; no-return = refl }
+word-plain (Release t n) = record { no-tab = refl; no-newline = refl; no-return = refl }
 
 pub fields-plain : (l : Line) → All Plain (fieldsIn l)
 unfolding fieldsIn All
@@ -212,3 +223,23 @@ says-written s =
     (λ _. picked Kind (same w releaseWord) _ _
     (λ e. two-read (Returns s) f Release bad (λ a b q. returns-fields s (Release a b) (digitsOf a)
     (digitsOf b ∷ []) e q (digits-some a) refl)) (λ _. bad)))))
+
+-- ---- returns
+-- no return stands in what is written of what a line says
+pub body-no-return : (l : Line) → has returnByte (lineBody l) ≡ false
+unfolding lineBody
+body-no-return l = parted-no-return (wordIn l) (fieldsIn l) (word-plain l) (fields-plain l)
+
+pub bytes-no-return : (l : Line) → has returnByte (lineBytes l) ≡ false
+unfolding has
+bytes-no-return l = rw (bytes-body l) (without-append returnByte (lineBody l) (newlineByte ∷ []) (body-no-return l) refl)
+
+-- nor in a line that says something: a return that is handed back with the line makes it badly formed
+pub return-bad : (s : List ℕ) → has returnByte s ≡ true → lineSays s ≡ Bad
+return-bad s h = go (said-or-bad (lineSays s))
+  where
+    go : Said (lineSays s) ⊎ (lineSays s ≡ Bad) → lineSays s ≡ Bad
+    go (inr e) = e
+    go (inl said) =
+        let none = rw (says-written s said) at (bytes-no-return (lineSays s)) in
+        absurd (true≢false (sym h ∙ without-parts returnByte s (newlineByte ∷ []) none .0))

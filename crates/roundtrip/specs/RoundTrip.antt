@@ -1,25 +1,29 @@
--- The round trip of the case text (document 01, "The case text"): reading what the writer wrote gives the same case; writing what was
--- read gives the same text, but for the policy line where it was absent. Over the definitions; CallTrip says it of the calls.
+-- The round trip of the case text (document 01, "The case text", and request P4): reading what the writer wrote gives the same case;
+-- writing what was read gives the text with its policy line where it was absent and without its returns. Over the definitions; CallTrip
+-- says it of the calls.
 use mathlib.Core.Path.{_≡_, sym, ap, _∙_}
-use mathlib.Core.Bool.{Bool, true}
+use mathlib.Core.Bool.{Bool, true, false}
 use mathlib.Core.Logic.{_⊎_, inl, inr}
 use mathlib.Core.List.{List, [], _∷_, _++_}
 use Prim.Native.Nat.{ℕ, _+_, _^_}
 use native.Mathlib.Omega.{arith}
 use lib.Dec.{eqb}
+use lib.ListN.{length}
 use Rattle.rules.specs.Words.{pick}
 use Rattle.rules.specs.declared.Line.{Line}
-use Rattle.rules.specs.declared.Line.the-variants.{Procs, Policy}
+use Rattle.rules.specs.declared.Line.the-variants.{Bad, Procs, Policy}
 use Rattle.rules.specs.Case.{Case, caseOf}
 use Rattle.rules.specs.Refusals.{noFault, Accepted}
-use Rattle.rules.specs.Text.{newlineByte, lineOf, afterLine, fieldOf}
-use Rattle.rules.specs.Reader.{wordKind, linesOf, kindOf, policyWhenAbsent, noCase, withLine, withLines}
+use Rattle.rules.specs.Text.{newlineByte, returnByte, has, lineOf, withoutReturns, afterLine, fieldOf}
+use Rattle.rules.specs.Reader.{wordKind, lineSays, linesOf, kindOf, caseOrder, linesFault, policyWhenAbsent, noCase, withLine, withLines}
 use Rattle.rules.specs.Reader.{caseWithDefault, caseIn, textFault}
 use Rattle.rules.specs.Writer.{joinedText, policyText, caseText}
 use Rattle.legal.specs.Legal.{legal}
+use Rattle.texts.specs.Returns.{without-none, without-short}
+use Rattle.texts.specs.LinesOf.{by-without}
 use Rattle.texts.specs.Passing.{text-clear, text-none}
 use Rattle.roundtrip.specs.LineTrip.{wordIn, fieldsIn, lineBytes, body-kind}
-use Rattle.roundtrip.specs.Lines.{textOf, textOf-cons, lineOf-text, afterLine-text, lines-written, lines-read}
+use Rattle.roundtrip.specs.Lines.{textOf, textOf-cons, text-no-return, lineOf-text, afterLine-text, lines-written, lines-read}
 use Rattle.roundtrip.specs.Orders.{all-said, body-tail, Ordered, ordered-of}
 use Rattle.roundtrip.specs.CaseLines.{caseLines, case-text, lines-hold, lines-held, lines-below, lines-clear, text-fits}
 
@@ -86,14 +90,44 @@ text-ordered ls o = go (o .whole)
 pub case-accepted : (s : List ℕ) → textFault s .number ≡ 0 → Accepted (caseIn s)
 case-accepted s h = text-clear s h .accepted
 
--- the same text, but for the policy line where it was absent
-pub text-read : (s : List ℕ) → textFault s .number ≡ 0 → caseText (caseIn s) ≡ withPolicy s
-unfolding caseWithDefault caseIn
-text-read s h =
-    let e = text-clear s h .lines in
-    text-ordered (linesOf s) (ordered-of (linesOf s) e) ∙ ap withPolicy (lines-read s (all-said 0 1 (linesOf s) e))
+-- the lines of such a text are those that the text has without its returns
+read-lines : (s : List ℕ) → textFault s .number ≡ 0 → textOf (linesOf s) ≡ withoutReturns s
+read-lines s h = lines-read s (all-said 0 1 (linesOf s) (text-clear s h .lines))
 
--- where the policy line was there, just the same text
-pub text-read-given : (s : List ℕ) → textFault s .number ≡ 0 → policyGiven s ≡ true → caseText (caseIn s) ≡ s
+-- the text with its policy line where it was absent and without its returns
+pub text-read : (s : List ℕ) → textFault s .number ≡ 0 → caseText (caseIn s) ≡ withPolicy (withoutReturns s)
+unfolding caseWithDefault caseIn
+text-read s h = text-ordered (linesOf s) (ordered-of (linesOf s) (text-clear s h .lines)) ∙ ap withPolicy (read-lines s h)
+
+-- where the policy line was there, just the text without its returns
+pub text-read-given : (s : List ℕ) → textFault s .number ≡ 0 → policyGiven (withoutReturns s) ≡ true
+    → caseText (caseIn s) ≡ withoutReturns s
 unfolding withPolicy
 text-read-given s h g = text-read s h ∙ rw g
+
+-- where there was no return, the same text but for the policy line
+pub text-read-before : (s : List ℕ) → textFault s .number ≡ 0 → has returnByte s ≡ false → caseText (caseIn s) ≡ withPolicy s
+text-read-before s h r = text-read s h ∙ ap withPolicy (without-none s r)
+
+-- ---- a text without its returns
+-- its lines, where the reader finds no fault in the text
+lines-without : (s : List ℕ) → textFault s .number ≡ 0 → linesOf s ≡ linesOf (withoutReturns s)
+unfolding linesOf
+lines-without s h =
+    by-without lineSays Bad (length s) s (omega arith)
+    (ap (has returnByte) (sym (read-lines s h)) ∙ text-no-return (linesOf s))
+
+-- is the same case
+pub case-without : (s : List ℕ) → textFault s .number ≡ 0 → caseIn (withoutReturns s) ≡ caseIn s
+unfolding caseWithDefault caseIn
+case-without s h = ap (withLines (noCase policyWhenAbsent)) (sym (lines-without s h))
+
+-- and the reader finds no fault in it
+pub no-fault-without : (s : List ℕ) → textFault s .number ≡ 0 → textFault (withoutReturns s) ≡ noFault
+no-fault-without s h =
+    let w = text-clear s h in
+    text-none (withoutReturns s) (record {
+      short = omega (arith, w .short, without-short s);
+      lines = rw (lines-without s h) at (w .lines);
+      accepted = rw (case-without s h) (w .accepted);
+    })

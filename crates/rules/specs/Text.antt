@@ -1,8 +1,8 @@
--- Lines, fields and numbers of a case text (document 01, "The case text"): where a line and a field end, which bytes are a number and
--- what it is worth, the digits of a number, the words. The reader, the writer and the printed lines are all made of these.
+-- Lines, fields and numbers of a case text (document 01, "The case text", and request P4): where a line and a field end, which bytes are
+-- a number and what it is worth, the digits of a number, the words. The reader, the writer and the printed lines are all made of these.
 use Prim.Native.Nat.{ℕ, zero, suc, _+_, _-_, _*_, _/_, _%_}
 use mathlib.Core.List.{List, [], _∷_, _++_}
-use mathlib.Core.Bool.{Bool, true, false, _&&_, not}
+use mathlib.Core.Bool.{Bool, true, false, _&&_, _||_, not}
 use lib.ListN.{length}
 use lib.Dec.{eqb, ltb, leb}
 use Rattle.rules.specs.Words.{pick}
@@ -12,6 +12,9 @@ use Rattle.rules.specs.declared.Num.the-variants.{Value, Bad}
 -- ---- bytes
 abbrev pub newlineByte : ℕ
 newlineByte = 10
+
+abbrev pub returnByte : ℕ
+returnByte = 13
 
 abbrev pub tabByte : ℕ
 tabByte = 9
@@ -39,9 +42,20 @@ has x [] = false
 has x (b ∷ s) = pick (eqb b x) true (has x s)
 
 -- ---- lines
--- what the line finder hands back: the first unread byte up to the newline
+-- whether b is a return that stands right before a newline, s being what follows b
+unfoldable pub lineReturn : ℕ → List ℕ → Bool
+lineReturn b [] = false
+lineReturn b (d ∷ s) = eqb b returnByte && eqb d newlineByte
+
+-- what the line finder hands back: the first unread byte up to the newline, or up to one return that stands right before it
 unfoldable pub lineOf : List ℕ → List ℕ
-lineOf s = upTo newlineByte s
+lineOf [] = []
+lineOf (b ∷ s) = pick (eqb b newlineByte || lineReturn b s) [] (b ∷ lineOf s)
+
+-- a text without its returns: one return before a newline goes
+unfoldable pub withoutReturns : List ℕ → List ℕ
+withoutReturns [] = []
+withoutReturns (b ∷ s) = pick (lineReturn b s) (withoutReturns s) (b ∷ withoutReturns s)
 
 -- what is unread after the line
 unfoldable pub afterLine : List ℕ → List ℕ

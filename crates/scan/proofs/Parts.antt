@@ -1,17 +1,18 @@
--- Laws of what stands up to the first of a byte and past it: `upTo`, `past` and `has`.
+-- Laws of what stands up to the first of a byte and past it: `upTo`, `past` and `has`; and of a line, `lineOf`.
 use mathlib.Core.Path.{_≡_, refl, sym, ap, _∙_}
-use mathlib.Core.Bool.{Bool, true, false}
+use mathlib.Core.Bool.{Bool, true, false, _&&_, _||_, and-false, true≢false}
 use mathlib.Core.List.{List, [], _∷_}
-use Prim.Native.Nat.{ℕ, suc, _+_, _-_, _≤_, _<_, zero-le, suc-le-suc}
+use Prim.Native.Nat.{ℕ, zero, suc, _+_, _-_, _≤_, _<_, zero-le, suc-le-suc}
 use native.Mathlib.Numerals.{add-one}
 use native.Mathlib.Nat.{add-sub-cancel-left}
 use native.Mathlib.Omega.{arith}
-use lib.Dec.{eqb}
+use lib.Dec.{eqb, ltb}
 use lib.ListN.{length, take, drop, getD, length-drop, drop-of-length-le}
-use lib.Seq.{drop-cons, take-all}
-use borrow.Author.Tests.{eq-eqb, ne-eqb}
+use lib.Seq.{drop-cons, take-all, getD-drop}
+use borrow.Author.Tests.{eq-eqb, ne-eqb, eqb-true, lt-ltb, ltb-true}
 use Rattle.rules.specs.Words.{pick}
-use Rattle.rules.specs.Text.{upTo, past, has}
+use Rattle.lists.specs.Tests.{and-left, and-right}
+use Rattle.rules.specs.Text.{newlineByte, returnByte, upTo, past, has, lineReturn, lineOf}
 
 -- x stands at i
 upTo-hit : (s : List ℕ) (i x : ℕ) → i < length s → getD s i 0 ≡ x → upTo x (drop i s) ≡ []
@@ -124,3 +125,86 @@ rest-some x e s h l =
 
 pub rest-none : (x e : ℕ) (s : List ℕ) → e ≡ length (upTo x s) → length s ≤ e → take (length s - e) (drop e s) ≡ past x s
 rest-none x e s h l = part-from e s ∙ drop-of-length-le s l ∙ sym (none-past x s (omega arith))
+
+-- ---- what the line finder hands back
+-- a return stands at p, the last byte before the newline of t
+abbrev pub ReturnAt : List ℕ → ℕ → Type 0
+ReturnAt t p = (suc p ≡ length (upTo newlineByte t)) × (suc p < length t) × (getD t p 0 ≡ returnByte)
+
+-- a line without such a byte is handed back whole
+pub line-whole : (t : List ℕ) → ((p : ℕ) → ReturnAt t p → ⊥) → lineOf t ≡ upTo newlineByte t
+unfolding lineOf lineReturn upTo
+line-whole [] h = refl
+line-whole (b ∷ []) h = go (eqb b newlineByte)
+  where
+    go : (e : Bool) → pick (e || false) [] (b ∷ []) ≡ pick e [] (b ∷ [])
+    go true = refl
+    go false = refl
+line-whole (b ∷ (d ∷ t)) h = go (eqb b newlineByte) (eqb d newlineByte) (eqb b returnByte) refl h (line-whole (d ∷ t))
+  where
+    go : (e f q : Bool) → eqb b returnByte ≡ q
+        → ((p : ℕ) → (suc p ≡ length (pick e [] (b ∷ pick f [] (d ∷ upTo newlineByte t)))) × (suc p < length (b ∷ d ∷ t))
+        × (getD (b ∷ d ∷ t) p 0 ≡ returnByte) → ⊥)
+        → (((p : ℕ) → (suc p ≡ length (pick f [] (d ∷ upTo newlineByte t))) × (suc p < length (d ∷ t)) × (getD (d ∷ t) p 0 ≡ returnByte)
+        → ⊥) → pick (f || lineReturn d t) [] (d ∷ lineOf t) ≡ pick f [] (d ∷ upTo newlineByte t))
+        → pick (e || (q && f)) [] (b ∷ pick (f || lineReturn d t) [] (d ∷ lineOf t)) ≡ pick e [] (b ∷ pick f [] (d ∷ upTo newlineByte t))
+    go true f q z h more = refl
+    go false true true z h more = absurd (h 0 (refl, omega arith, eqb-true b returnByte z))
+    go false true false z h more = refl
+    go false false q z h more =
+        rw (and-false q) (ap (λ (l : List ℕ). b ∷ l) (more (λ p w. h (suc p) (ap suc (w .0), omega (arith, w .1), w .2))))
+
+-- and one with it stops before it
+pub line-shorter : (t : List ℕ) (p : ℕ) → ReturnAt t p → lineOf t ≡ take p t
+unfolding lineOf lineReturn upTo
+line-shorter [] p w = absurd (omega (arith, w .1))
+line-shorter (b ∷ []) p w = absurd (omega (arith, w .1))
+line-shorter (b ∷ (d ∷ t)) p w = go (eqb b newlineByte) (eqb d newlineByte) p w (line-shorter (d ∷ t))
+  where
+    go : (e f : Bool) (p : ℕ) → (suc p ≡ length (pick e [] (b ∷ pick f [] (d ∷ upTo newlineByte t)))) × (suc p < length (b ∷ d ∷ t))
+        × (getD (b ∷ d ∷ t) p 0 ≡ returnByte)
+        → ((p : ℕ) → (suc p ≡ length (pick f [] (d ∷ upTo newlineByte t))) × (suc p < length (d ∷ t)) × (getD (d ∷ t) p 0 ≡ returnByte)
+        → pick (f || lineReturn d t) [] (d ∷ lineOf t) ≡ take p (d ∷ t))
+        → pick (e || (eqb b returnByte && f)) [] (b ∷ pick (f || lineReturn d t) [] (d ∷ lineOf t)) ≡ take p (b ∷ d ∷ t)
+    go true f p w more = absurd (omega (arith, w .0))
+    go false true zero w more = rw (eq-eqb b returnByte (w .2))
+    go false true (suc p) w more = absurd (omega (arith, w .0))
+    go false false zero w more = absurd (omega (arith, w .0))
+    go false false (suc p) w more =
+        rw (and-false (eqb b returnByte)) (ap (λ (l : List ℕ). b ∷ l) (more p (omega (arith, w .0), omega (arith, w .1), w .2)))
+
+-- the part of s that the code takes, e being where the line from `from` on ends
+module _ (s : List ℕ) (from e : ℕ) (ends : e ≡ from + length (upTo newlineByte (drop from s))) where
+  -- a return stands right before the newline
+  abbrev pub isReturned : Bool
+  isReturned = ltb e (length s) && ltb from e && eqb (getD s (e - 1) 0) returnByte
+
+  pub returned-bounds : isReturned ≡ true → (e < length s) × (from < e)
+  returned-bounds h =
+      let a = and-left (ltb e (length s) && ltb from e) _ h in
+      (ltb-true e (length s) (and-left (ltb e (length s)) _ a), ltb-true from e (and-right (ltb e (length s)) _ a))
+
+  pub part-returned : isReturned ≡ true → take (e - 1 - from) (drop from s) ≡ lineOf (drop from s)
+  part-returned h =
+      let b = returned-bounds h in
+      let p = e - 1 - from in
+      let k : from + p ≡ e - 1 = omega (arith, b .1) in
+      sym (line-shorter (drop from s) p (
+        omega (arith, b .1),
+        omega (arith, b .0, b .1, length-drop from s),
+        getD-drop from s p 0 ∙ ap (λ (n : ℕ). getD s n 0) k
+            ∙ eqb-true (getD s (e - 1) 0) returnByte (and-right (ltb e (length s) && ltb from e) _ h),
+      ))
+
+  pub part-whole : isReturned ≡ false → take (e - from) (drop from s) ≡ lineOf (drop from s)
+  part-whole h = part-upTo newlineByte from e s ends ∙ sym (line-whole (drop from s) none)
+    where
+      none : (p : ℕ) → ReturnAt (drop from s) p → ⊥
+      none p w =
+          let k : from + p ≡ e - 1 = omega (arith, w .0) in
+          let z : getD s (e - 1) 0 ≡ returnByte = ap (λ (n : ℕ). getD s n 0) (sym k) ∙ sym (getD-drop from s p 0) ∙ w .2 in
+          true≢false (rw (
+            lt-ltb e (length s) (omega (arith, w .0, w .1, length-drop from s)),
+            lt-ltb from e (omega (arith, w .0)),
+            eq-eqb (getD s (e - 1) 0) returnByte z,
+          ) at h)

@@ -1,8 +1,10 @@
 // Lines, fields and numbers of a text: where they end, and what digits are worth.
 ghost use mathlib.Core.Path.{_≡_};
-ghost use Prim.Native.Nat.{_+_, _≤_};
-ghost use lib.ListN.{length, drop};
-ghost use Rattle.rules.specs.Text.{newlineByte, upTo, lineOf, fieldOf, afterField, numberIn};
+ghost use mathlib.Core.Bool.{_&&_};
+ghost use Prim.Native.Nat.{_+_, _-_, _≤_};
+ghost use lib.Dec.{eqb, ltb};
+ghost use lib.ListN.{length, getD, drop};
+ghost use Rattle.rules.specs.Text.{newlineByte, returnByte, upTo, lineOf, fieldOf, afterField, numberIn};
 use rules::Num;
 
 // The index of the first b of s from `from` on, or s's length where there is none. Two bytes a turn: such searches are most of what the
@@ -37,12 +39,28 @@ pub fn line_end(s: &[u8], from: usize) -> usize
     seek(s, from, b'\n')
 }
 
-// The line that starts at the first unread byte and ends at `end`, a part of the caller's text.
+// Whether a return of the line from `from` to `end` stands right before its newline: where the text stops there is none.
+fn is_returned(s: &[u8], from: usize, end: usize) -> bool
+    ensures { λ r. ⌜ r ≡ (ltb end (length (now (s .entry))) && ltb from end && eqb (getD (now (s .entry)) (end - 1) 0) returnByte) ⌝ }
+{
+    if s.len() <= end {
+        return false;
+    }
+    if end <= from {
+        return false;
+    }
+    s[end - 1] == b'\r'
+}
+
+// The line that starts at the first unread byte and ends at `end`, a part of the caller's text, up to one return right before its newline.
 pub fn line(s: &[u8], from: usize, end: usize) -> &[u8]
     requires { ⌜ from ≤ length (now s) ⌝ }
     requires { ⌜ end ≡ from + length (upTo newlineByte (drop from (now s))) ⌝ }
     ensures { λ r. ⌜ now r ≡ lineOf (drop from (now (s .entry))) ⌝ }
 {
+    if is_returned(s, from, end) {
+        return &s[from..end - 1];
+    }
     &s[from..end]
 }
 

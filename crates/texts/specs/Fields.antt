@@ -9,8 +9,8 @@ use lib.Dec.{eqb}
 use lib.ListN.{length, length-append, getD, take}
 use borrow.Author.Tests.{eq-eqb, ne-eqb, eqb-true}
 use Rattle.rules.specs.Words.{pick}
-use Rattle.rules.specs.Text.{newlineByte, tabByte, same, upTo, past, has, allDigits, digitsOf}
-use Rattle.rules.specs.Writer.{moreFields, lineText}
+use Rattle.rules.specs.Text.{newlineByte, returnByte, tabByte, same, upTo, past, has, allDigits, digitsOf}
+use Rattle.rules.specs.Writer.{joinedText, moreFields, lineText}
 use Rattle.lists.specs.Tests.{and-left, and-right}
 use Rattle.lists.specs.Lists.{picked}
 use Rattle.texts.specs.Digits.{head-digit, all-digits}
@@ -30,7 +30,7 @@ same-true (x ∷ s) (y ∷ t) e = ap₂ _∷_ (eqb-true x y (and-left (eqb x y) 
 
 -- ---- a text without x, then x, then more
 -- the first byte of a text without x is not x, and no more is any other
-without-head : (x b : ℕ) (s : List ℕ) → has x (b ∷ s) ≡ false → (eqb b x ≡ false) × (has x s ≡ false)
+pub without-head : (x b : ℕ) (s : List ℕ) → has x (b ∷ s) ≡ false → (eqb b x ≡ false) × (has x s ≡ false)
 unfolding has
 without-head x b s = picked (λ t. t ≡ false → (eqb b x ≡ false) × (has x s ≡ false)) (eqb b x) true (has x s)
     (λ p e. absurd (true≢false e))
@@ -130,10 +130,11 @@ past-less x b [] = picked (λ (z : List ℕ). length z ≤ 0) (eqb b x) [] [] (�
 past-less x b (d ∷ s) = picked (λ (z : List ℕ). length z ≤ suc (length s)) (eqb b x) (d ∷ s) (past x (d ∷ s)) (λ e. omega arith)
     (λ e. omega (arith, past-less x d s))
 
--- ---- a text in which neither a tab nor a newline stands
+-- ---- a text in which no tab, no newline and no return stands
 pub record Plain (s : List ℕ) : Type 0 where
   pub no-tab : has tabByte s ≡ false
   pub no-newline : has newlineByte s ≡ false
+  pub no-return : has returnByte s ≡ false
 
 -- a byte that is no digit does not stand among digits
 digits-without : (x : ℕ) (s : List ℕ) → x < 48 → allDigits s ≡ true → has x s ≡ false
@@ -145,6 +146,7 @@ pub digits-plain : (n : ℕ) → Plain (digitsOf n)
 digits-plain n = record {
   no-tab = digits-without tabByte (digitsOf n) (omega arith) (all-digits n);
   no-newline = digits-without newlineByte (digitsOf n) (omega arith) (all-digits n);
+  no-return = digits-without returnByte (digitsOf n) (omega arith) (all-digits n);
 }
 
 -- ---- fields parted by one tab: a first one and more
@@ -159,10 +161,25 @@ line-parted f [] = refl
 line-parted f (g ∷ gs) = ap (λ (t : List ℕ). f ++ (tabByte ∷ t)) (line-parted g gs)
     ∙ sym (append-assoc f (tabByte ∷ parted g gs) (newlineByte ∷ []))
 
-without-append : (x : ℕ) (s t : List ℕ) → has x s ≡ false → has x t ≡ false → has x (s ++ t) ≡ false
+-- what stands in neither of two texts does not stand in their join, and the other way
+pub without-append : (x : ℕ) (s t : List ℕ) → has x s ≡ false → has x t ≡ false → has x (s ++ t) ≡ false
 unfolding has
 without-append x [] t p q = q
 without-append x (b ∷ s) t p q = let w = without-head x b s p in rw (w .0, without-append x s t (w .1) q)
+
+pub without-parts : (x : ℕ) (s t : List ℕ) → has x (s ++ t) ≡ false → (has x s ≡ false) × (has x t ≡ false)
+unfolding has
+without-parts x [] t h = (refl, h)
+without-parts x (b ∷ s) t h =
+    let w = without-head x b (s ++ t) h in
+    let v = without-parts x s t (w .1) in
+    (rw (w .0, v .0), v .1)
+
+-- nor in their join, any number of them
+pub without-joined : (x : ℕ) (ss : List (List ℕ)) → All (λ s. has x s ≡ false) ss → has x (joinedText ss) ≡ false
+unfolding All joinedText has
+without-joined x [] a = refl
+without-joined x (s ∷ ss) a = without-append x s (joinedText ss) (a .0) (without-joined x ss (a .1))
 
 -- a byte that is no tab and stands in no field does not stand between them
 parted-without : (x : ℕ) → eqb tabByte x ≡ false → ((f : List ℕ) → Plain f → has x f ≡ false)
@@ -174,6 +191,9 @@ parted-without x e none f (g ∷ gs) p ps =
 
 pub parted-no-newline : (f : List ℕ) (fs : List (List ℕ)) → Plain f → All Plain fs → has newlineByte (parted f fs) ≡ false
 parted-no-newline = parted-without newlineByte refl (λ f p. p .no-newline)
+
+pub parted-no-return : (f : List ℕ) (fs : List (List ℕ)) → Plain f → All Plain fs → has returnByte (parted f fs) ≡ false
+parted-no-return = parted-without returnByte refl (λ f p. p .no-return)
 
 parted-some : (f : List ℕ) (fs : List (List ℕ)) → 1 ≤ length f → 1 ≤ length (parted f fs)
 unfolding parted

@@ -1,6 +1,8 @@
 pub mod Digits
 pub mod Fields
+pub mod Returns
 pub mod LinesOf
+pub mod AsBefore
 pub mod WordLists
 pub mod PolicyNames
 pub mod Passing

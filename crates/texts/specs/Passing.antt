@@ -3,16 +3,17 @@
 use mathlib.Core.Path.{_≡_, refl, sym, ap, _∙_}
 use mathlib.Core.Bool.{Bool, true, false, not}
 use mathlib.Core.List.{List, [], _∷_, _++_}
-use Prim.Native.Nat.{ℕ, suc, _*_, _≤_}
+use Prim.Native.Nat.{ℕ, suc, _*_, _≤_, _<_}
 use native.Mathlib.Omega.{arith}
 use lib.Dec.{eqb}
 use lib.ListN.{length}
-use borrow.Author.Tests.{eqb-true, eqb-false, leb-true, le-leb, not-true}
+use borrow.Author.Tests.{eqb-true, eqb-false, leb-true, le-leb, lt-leb, not-true}
 use Rattle.rules.specs.Words.{pick}
 use Rattle.rules.specs.declared.Fault.{Fault}
 use Rattle.rules.specs.declared.Line.{Line}
 use Rattle.rules.specs.Limits.{maxTasks, maxReleases, maxText, taskWidth, releaseWidth}
-use Rattle.rules.specs.Refusals.{noFault, unless, orNext, first, roomFault, caseFault, Accepted}
+use Rattle.rules.specs.Refusals.{noFault, faultOf, unless, orNext, first, roomFault, caseFault, Accepted}
+use Rattle.rules.specs.Text.{withoutReturns}
 use Rattle.rules.specs.Reader.{linesOf, kindOf, Order, caseOrder, linesFault, caseIn, lengthFault, textFault, readFault}
 use Rattle.legal.specs.Firsts.{unless-clear, AllClear, row-clear, row-none, row-join, next-none}
 use Rattle.legal.specs.Passing.{room-clear, room-none}
@@ -41,6 +42,12 @@ length-clear s e = leb-true (length s) maxText (unless-clear _ 1 0 (omega arith)
 length-passes : (s : List ℕ) → length s ≤ maxText → lengthFault s .number ≡ 0
 unfolding lengthFault
 length-passes s h = rw (le-leb (length s) maxText h)
+
+-- returns count among the bytes: what is left without them does not matter
+pub returns-counted : (s : List ℕ) → length (withoutReturns s) ≤ maxText → maxText < length s
+    → textFault s ≡ faultOf 1 0
+unfolding textFault lengthFault orNext
+returns-counted s fits long = rw (lt-leb (length s) maxText long)
 
 -- ---- 2 and 3: a line of kind k is well formed and may follow, and so those after it
 abbrev pub lineTests : Order → ℕ → ℕ → ℕ → List Fault

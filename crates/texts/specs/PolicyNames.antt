@@ -33,7 +33,7 @@ unfolding distinct every same
 distinct-words = refl
 
 -- ---- what follows of each policy
--- neither tab nor newline stands in its word
+-- no tab, no newline and no return stands in its word
 pub name-plain : (p : ℕ) → Plain (policyName p)
 unfolding policyName has
 name-plain p = is-plain (policyName p) (every-all isPlain policyWords p plain-words refl)

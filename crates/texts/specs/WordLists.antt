@@ -9,7 +9,7 @@ use native.Mathlib.Omega.{arith}
 use lib.Dec.{leb}
 use lib.ListN.{length, getD}
 use borrow.Author.Tests.{eq-eqb, leb-true}
-use Rattle.rules.specs.Text.{newlineByte, tabByte, same, has}
+use Rattle.rules.specs.Text.{newlineByte, returnByte, tabByte, same, has}
 use Rattle.rules.specs.Policies.{placeFrom}
 use Rattle.rules.specs.declared.Num.{Num}
 use Rattle.rules.specs.declared.Num.the-variants.{Value, Bad}
@@ -43,9 +43,9 @@ every-all p [] k e h = h
 every-all p (w ∷ ws) zero e h = and-left (p w) _ e
 every-all p (w ∷ ws) (suc k) e h = every-all p ws k (and-right (p w) _ e) h
 
--- ---- tests of a word: neither tab nor newline stands in it; it has at least a and at most b bytes
+-- ---- tests of a word: no tab, no newline and no return stands in it; it has at least a and at most b bytes
 abbrev pub isPlain : List ℕ → Bool
-isPlain s = not (has tabByte s) && not (has newlineByte s)
+isPlain s = not (has tabByte s) && not (has newlineByte s) && not (has returnByte s)
 
 abbrev pub isLong : ℕ → ℕ → List ℕ → Bool
 isLong a b s = leb a (length s) && leb (length s) b
@@ -55,10 +55,13 @@ not-true false e = refl
 not-true true e = sym e
 
 pub is-plain : (s : List ℕ) → isPlain s ≡ true → Plain s
-is-plain s e = record {
-  no-tab = not-true (has tabByte s) (and-left (not (has tabByte s)) _ e);
-  no-newline = not-true (has newlineByte s) (and-right (not (has tabByte s)) _ e);
-}
+is-plain s e =
+    let a = and-left (not (has tabByte s) && not (has newlineByte s)) _ e in
+    record {
+      no-tab = not-true (has tabByte s) (and-left (not (has tabByte s)) _ a);
+      no-newline = not-true (has newlineByte s) (and-right (not (has tabByte s)) _ a);
+      no-return = not-true (has returnByte s) (and-right (not (has tabByte s) && not (has newlineByte s)) _ e);
+    }
 
 pub is-long : (a b : ℕ) (s : List ℕ) → isLong a b s ≡ true → (a ≤ length s) × (length s ≤ b)
 is-long a b s e = (leb-true a (length s) (and-left (leb a (length s)) _ e), leb-true (length s) b (and-right (leb a (length s)) _ e))

@@ -117,6 +117,8 @@ uint32_t thrumcomb_running_set(
 
 /*
  * The reader of a case text. Refusals 1 to 13, 16.
+ * text: its lines end with a newline. One carriage return right before a newline is left out and counts among the 60,000 bytes; anywhere
+ * else a return is badly formed (2).
  * tasks: the task numbers; the room is at least THRUMCOMB_TASK_ROOM numbers long.
  * releases: the release numbers; the room is at least THRUMCOMB_RELEASE_ROOM numbers long.
  * results[0] to [4]: processors, policy, end, how many tasks (of three numbers each), how many releases (of two numbers each).
@@ -130,7 +132,7 @@ uint32_t thrumcomb_read(
 
 /*
  * The writer of a case text. Refusals 4 to 14, 16.
- * out: the text, with no byte after it; 13 where the exact text does not fit.
+ * out: the text, its newlines without returns and with no byte after it; 13 where the exact text does not fit.
  * results[0]: the text's length in bytes.
  */
 uint32_t thrumcomb_write(
@@ -144,8 +146,8 @@ uint32_t thrumcomb_write(
 
 /*
  * The check of a slot log: one line a slot, `slot`, the time, then the running tasks in rising order, parted by one tab each and ended
- * by a newline; numbers as in a case text. Accepted (0) exactly if there are end lines and in every slot, the state following the log,
- * min(m, N) of the N present jobs run and none that waits comes strictly before one that runs, normal before demoted and then by
+ * by a newline; numbers and returns as in a case text. Accepted (0) exactly if there are end lines and in every slot, the state following
+ * the log, min(m, N) of the N present jobs run and none that waits comes strictly before one that runs, normal before demoted and then by
  * deadline; equal deadlines may go either way. Refusals 4 to 12, 14, 16, 17, 18, 19. The log may be of any length and content.
  */
 uint32_t thrumcomb_check_log(

@@ -194,7 +194,7 @@ pub fn running_set(case: Case<'_>, slot: u32) -> Result<u32, Refusal> {
     told(number, results, place).map(|[set]| set as u32)
 }
 
-/// The reader of a case text, its numbers into `tasks` and `releases`.
+/// The reader of a case text, its numbers into `tasks` and `releases`. One carriage return right before a newline is left out.
 pub fn read(text: &[u8], tasks: &mut [u32], releases: &mut [u32]) -> Result<Head, Refusal> {
     let mut results = [0; 5];
     let mut place = 0;
@@ -243,7 +243,7 @@ pub fn write(case: Case<'_>, out: &mut [u8]) -> Result<usize, Refusal> {
     told(number, results, place).map(|[length]| length)
 }
 
-/// The check of a slot log; there is nothing to return but that it is accepted.
+/// The check of a slot log, returns as in a case text; there is nothing to return but that it is accepted.
 pub fn check_log(case: Case<'_>, log: &[u8]) -> Result<(), Refusal> {
     let mut place = 0;
     // SAFETY: as in `counts`.

@@ -2,7 +2,7 @@
 use borrow.Author.Needs.{needs}
 use mathlib.Core.Path.{sym, ap, _∙_}
 use Prim.Native.Nat.{ℕ}
-use Rattle.feeds.specs.LineScan.{scanByte}
+use Rattle.feeds.specs.LineScan.{fieldByte}
 use Rattle.heard.specs.Scans.{scanAs}
 use Rattle.heard.proofs.Scanning.{fits-digit, small-worth, digit-more, number-wrong}
 use Rattle.heard.proofs.number_byte.Statement.{statement}
@@ -15,7 +15,7 @@ returns : tie.Need-returns
 returns c =
     let start = c .before .before .before in
     let t = c .after-field .ensures in
-    (t .0, t .1 ∙ ap (λ (b : ℕ). scanByte (scanAs (start .args .s) (start .args .named .now)) b) (sym (c .before .before .if1 .taken)))
+    (t .0, t .1 ∙ ap (λ (b : ℕ). fieldByte (scanAs (start .args .s) (start .args .named .now)) b) (sym (c .before .before .if1 .taken)))
 
 fits-requires : tie.Need-fits-requires
 fits-requires c κs = search needs
