@@ -1,6 +1,7 @@
 -- `heard::at_return` meets its contract.
 use borrow.Author.Needs.{needs}
 use mathlib.Core.Path.{sym, ap, _∙_}
+use Prim.Native.Nat.{_≤_}
 use native.Mathlib.Omega.{arith}
 use Rattle.feeds.specs.LineScan.{afterReturn}
 use Rattle.heard.specs.declared.Ended.{Ended}
@@ -13,7 +14,8 @@ returns : tie.Need-returns
 returns c =
     let start = c .before in
     let s = start .args .s in
-    (start .pre, return-twice (s .phase) (s .digits) (s .value) (s .time) (s .low) (s .rises) (s .names) _ (omega (arith, c .if1 .taken)) .0)
+    let twice : 4 ≤ s .phase = omega (arith, c .if1 .taken) in
+    (start .pre, return-twice (s .phase) (s .digits) (s .value) (s .time) (s .low) (s .rises) (s .names) _ twice .0)
 
 line-end-requires : tie.Need-line-end-requires
 line-end-requires c κs = c .before .before .pre
