@@ -5,7 +5,7 @@ ghost use mathlib.Core.List.{List, _++_};
 ghost use lib.ListN.{length, getD, drop};
 ghost use Rattle.rules.specs.Limits.{maxPeriod};
 ghost use Rattle.rules.specs.Case.{taskCount};
-ghost use Rattle.rules.specs.Counts.{availability, count, freeCounts};
+ghost use Rattle.rules.specs.Counts.{availability, count, freeCount, freeCounts};
 ghost use Rattle.rules.specs.Calls.{CountsPromise};
 ghost use Rattle.legal.specs.Passing.{Procs, Sound};
 ghost use Rattle.counts.specs.Needs.{maxAvailability, Counts};
@@ -45,6 +45,15 @@ fn count_of(procs: u32, table: &[u32], slots: u32) -> u32
     if slots < shared { 0 } else { slots - shared }
 }
 
+// The free count of a task: the count for as many slots as its deadline is long.
+pub fn free_count(procs: u32, table: &[u32], i: usize) -> u32
+    requires { ⌜ Sound (now table) × Procs procs × (i < taskCount (now table)) ⌝ }
+    ensures { λ r. ⌜ r ≡ freeCount procs (now (table .entry)) i ⌝ }
+{
+    let slots = cases::deadline_of(table, i);
+    count_of(procs, table, slots)
+}
+
 // Writes each task's free count, in table order.
 fn put_counts(procs: u32, table: &[u32], out: &mut [u32])
     requires { ⌜ Sound (now table) × Procs procs × (taskCount (now table) ≤ length (now out)) ⌝ }
@@ -54,8 +63,7 @@ fn put_counts(procs: u32, table: &[u32], out: &mut [u32])
     let tasks = cases::task_count(table);
     let mut i: usize = 0;
     while i < tasks {
-        let slots = cases::deadline_of(table, i);
-        out[i] = count_of(procs, table, slots);
+        out[i] = free_count(procs, table, i);
         i += 1;
     }
 }

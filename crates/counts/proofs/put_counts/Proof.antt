@@ -1,11 +1,11 @@
 -- `counts::put_counts` meets its contract: the loop lays the free counts over what the slice held.
-use mathlib.Core.Path.{_≡_, ap, _∙_}
+use mathlib.Core.Path.{_≡_}
 use mathlib.Core.List.{List}
 use Prim.Native.Nat.{ℕ, _-_, _≤_, _<_}
 use native.Mathlib.Omega.{arith}
 use lib.ListN.{length}
 use Rattle.rules.specs.Case.{taskCount}
-use Rattle.rules.specs.Counts.{count, freeCount}
+use Rattle.rules.specs.Counts.{freeCount}
 use Rattle.lists.specs.Fill.{Laying, laying-none, laying-long, laying-store}
 use borrow.Author.Needs.{needs}
 use Rattle.counts.proofs.put_counts.Statement.{statement}
@@ -23,26 +23,22 @@ task-count-requires c κs = search needs
 loop-holds : tie.Need-loop-holds Inv-loop μ-loop
 loop-holds c = (omega arith, laying-none _ _)
 
-deadline-of-requires : tie.Need-deadline-of-requires Inv-loop μ-loop
-deadline-of-requires c κs = search needs
-
-count-of-requires : tie.Need-count-of-requires Inv-loop μ-loop
-count-of-requires c κs =
-    let q = c .before .before .before .before .before .before .pre in
-    let g = q .0 .good (c .before .before .loop .i) (omega (arith, c .before .before .before .task-count .ensures)) in
-    (q .0, q .1, omega (arith, c .deadline-of .ensures, g .fits, g .within, g .small))
+free-count-requires : tie.Need-free-count-requires Inv-loop μ-loop
+free-count-requires c κs =
+    let q = c .before .before .before .before .before .pre in
+    (q .0, q .1, omega (arith, c .loop-test .taken, c .before .before .task-count .ensures))
 
 mul-out : tie.Need-mul-out Inv-loop μ-loop
 mul-out c =
-    let start = c .before .before .before .before .before .before .before in
-    let task-count = c .before .before .before .before .task-count in
+    let start = c .before .before .before .before .before .before in
+    let task-count = c .before .before .before .task-count in
     omega (arith, start .pre .0 .few, task-count .ensures)
 
 slice-write-out : tie.Need-slice-write-out Inv-loop μ-loop
 slice-write-out c =
-    let start = c .before .before .before .before .before .before .before in
-    let looped = c .before .before .before .loop in
-    let task-count = c .before .before .before .before .task-count in
+    let start = c .before .before .before .before .before .before in
+    let looped = c .before .before .loop in
+    let task-count = c .before .before .before .task-count in
     omega (arith, laying-long _ _ _ _ (looped .inv .1), start .pre .2, task-count .ensures)
 
 add-i : tie.Need-add-i Inv-loop μ-loop
@@ -52,17 +48,12 @@ loop-less : tie.Need-loop-less Inv-loop μ-loop
 loop-less c = search needs
 
 loop-again : tie.Need-loop-again Inv-loop μ-loop
-unfolding freeCount
 loop-again c =
-    let start = c .before .before .before .before .before .before .before in
-    let looped = c .before .before .before .loop in
-    let task-count = c .before .before .before .before .task-count in
-    let w = c .before .before .before .loop .inv .1 in
-    let l : looped .i < length (start .args .out .now) = omega (arith, start .pre .2, task-count .ensures) in (
-      omega arith,
-      laying-store _ _ _ _ 0 _ l w (c .count-of .ensures
-          ∙ ap (count (start .args .procs) (start .args .table .now)) (c .before .deadline-of .ensures)),
-    )
+    let start = c .before .before .before .before .before .before in
+    let looped = c .before .before .loop in
+    let task-count = c .before .before .before .task-count in
+    let l : looped .i < length (start .args .out .now) = omega (arith, start .pre .2, task-count .ensures) in
+    (omega arith, laying-store _ _ _ _ 0 _ l (looped .inv .1) (c .free-count .ensures))
 
 same-length : tie.Need-same-length Inv-loop μ-loop
 same-length c = laying-long _ _ _ _ (c .before .loop .inv .1)
@@ -81,8 +72,7 @@ put-counts-spec =
     μ-loop
     task-count-requires
     loop-holds
-    deadline-of-requires
-    count-of-requires
+    free-count-requires
     mul-out
     slice-write-out
     add-i
