@@ -12,14 +12,14 @@ ghost use Rattle.blame.specs.Blames.{absentTask, ranCount, jobOf, kindWo
 ghost use Rattle.lists.specs.Lists.{members};
 ghost use Rattle.blame.specs.Blames.{kindRoom, jobRoom, faultRoom, blameRoom};
 ghost use Rattle.blame.specs.Blames.{Overtaking, Waiting, WaitingLaid, FaultLaid, Blamed};
+use choice::kind_of;
+use choice::some_wait;
 use jobs::counted;
 use jobs::due_of;
 use jobs::has_job;
 use jobs::is_demoted;
 use puts::put_bytes;
 use puts::put_number;
-use queue::kind_of;
-use queue::some_wait;
 use rules::Job;
 use rules::MAX_TASKS;
 use rules::Run;

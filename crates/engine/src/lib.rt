@@ -8,7 +8,6 @@ ghost use Rattle.rules.specs.Case.{caseOf, releaseCount};
 ghost use Rattle.rules.specs.Refusals.{Accepted};
 ghost use Rattle.rules.specs.Calls.{roomAfter, ReplayPromise, RunningPromise};
 ghost use Rattle.rules.specs.Slot.{setNumber};
-ghost use Rattle.counts.specs.Needs.{Counts};
 use rules::MAX_TASKS;
 use rules::Replayed;
 use rules::Running;
@@ -16,36 +15,15 @@ use rules::Running;
 // ---- the replay
 
 // The replay of an accepted case, into room that is long enough.
-fn replay_run(
-    procs: u32,
-    policy: u32,
-    table: &[u32],
-    counts: [u32; MAX_TASKS],
-    end: u32,
-    trace: &[u32],
-    out: &mut [u32],
-)
+fn replay_run(procs: u32, policy: u32, table: &[u32], end: u32, trace: &[u32], out: &mut [u32])
     requires { ⌜ Accepted (caseOf procs policy (now table) end (now trace)) ⌝ }
-    requires { ⌜ Counts procs (now table) counts ⌝ }
     requires { ⌜ releaseCount (now trace) * recordWidth ≤ length (now out) ⌝ }
     ensures { λ r. ⌜ now (out .exit) ≡ roomAfter (caseOf procs policy (now (table .entry)) end (now (trace .entry)))
         (now (out .entry)) ⌝ }
 {
     let n = cases::release_count(trace);
     notes::open_records(out, n);
-    let first = slot::fresh_run();
-    slots::walk(
-        first,
-        procs,
-        policy,
-        table,
-        counts,
-        end,
-        trace,
-        end,
-        true,
-        out,
-    );
+    slots::walk(procs, policy, table, end, trace, end, true, out);
 }
 
 // The replay of any case: a refusal that leaves the room as it was, or the records and their totals.
@@ -67,8 +45,7 @@ pub fn replay(
     if number != 0 {
         return Replayed::Refused { number, place };
     }
-    let free = counts::free_counts(procs, table);
-    replay_run(procs, policy, table, free, end, trace, out);
+    replay_run(procs, policy, table, end, trace, out);
     let n = cases::release_count(trace);
     let met = notes::marked_in(out, n, 1);
     let missed = notes::marked_in(out, n, 2);
@@ -112,21 +89,8 @@ pub fn running(
     if number != 0 {
         return Running::Refused { number, place };
     }
-    let free = counts::free_counts(procs, table);
-    let first = slot::fresh_run();
     let mut none: [u32; 0] = [];
-    let ran = slots::walk(
-        first,
-        procs,
-        policy,
-        table,
-        free,
-        end,
-        trace,
-        slot + 1,
-        false,
-        &mut none,
-    );
+    let ran = slots::walk(procs, policy, table, end, trace, slot + 1, false, &mut none);
     Running::Ran {
         set: set_number(ran),
     }

@@ -68,24 +68,9 @@ fn open_at(
         (now (jobs .exit)) ⌝ }
 {
     let mut released = [false; MAX_TASKS];
-    let mut missed = [false; MAX_TASKS];
-    let mut demoted = [false; MAX_TASKS];
-    let mut present = [false; MAX_TASKS];
     let from = *next;
     *next = traces::take_releases(trace, from, clock, &mut released);
-    slot::settle(
-        run,
-        procs,
-        policy,
-        table,
-        counts,
-        &released,
-        clock,
-        jobs,
-        &mut missed,
-        &mut demoted,
-        &mut present,
-    )
+    slot::open_run(run, procs, policy, table, counts, &released, clock, jobs)
 }
 
 // The number of a slot by whether it stands.
@@ -246,26 +231,26 @@ fn log_of(
 }
 
 // A piece of the log, line by line: up to the newline by the bytes alone, then the slot. The run is changed here, in the loop that holds
-// it, and only where a slot changes it: a function that took it and gave it back would copy it in every slot.
+// it, and only where a slot changes it: a function that took it and gave it back would copy it in every slot. Run and set stay in the
+// state: the compiler takes a run that is a local of its own apart into its 32 tasks and copies it part by part.
 pub fn feed(
     log: Log,
     procs: u32,
     policy: u32,
     table: &[u32],
-    counts: [u32; MAX_TASKS],
+    counts: &[u32; MAX_TASKS],
     end: u32,
     trace: &[u32],
     piece: &[u8],
 ) -> Log
     requires { ⌜ Accepted (caseOf procs policy (now table) end (now trace)) ⌝ }
-    requires { ⌜ Counts procs (now table) counts ⌝ }
+    requires { ⌜ Counts procs (now table) (now counts) ⌝ }
     requires { ⌜ Followed (caseOf procs policy (now table) end (now trace)) log ⌝ }
     ensures { λ r. ⌜ ((f : Feed) → Follows (caseOf procs policy (now (table .entry)) end (now (trace .entry))) f log
         → Follows (caseOf procs policy (now (table .entry)) end (now (trace .entry)))
         (feed (caseOf procs policy (now (table .entry)) end (now (trace .entry))) f (now (piece .entry))) r) ⌝ }
 {
-    let mut run = log.run;
-    let mut named = log.named;
+    let mut s = log;
     let mut scan = log.scan;
     let mut lines = log.lines;
     let mut next = log.next;
@@ -274,35 +259,35 @@ pub fn feed(
     let mut number = log.number;
     let mut i: usize = 0;
     while goes_on(i, piece.len(), number) {
-        scan = heard::scan_line(scan, piece, i, &mut i, &mut named);
+        scan = heard::scan_line(scan, piece, i, &mut i, &mut s.named);
         if i == piece.len() {
-            return log_of(run, named, scan, lines, next, jobs, calm, number);
+            return log_of(s.run, s.named, scan, lines, next, jobs, calm, number);
         }
-        let ended = heard::line_end(scan, &mut named);
+        let ended = heard::line_end(scan, &mut s.named);
         if has_slot(ended, lines, end, &mut number) {
             if must_open(trace, next, lines, calm) {
-                run = open_at(
-                    run,
+                s.run = open_at(
+                    s.run,
                     procs,
                     policy,
                     table,
-                    &counts,
+                    counts,
                     trace,
                     lines,
                     &mut next,
                     &mut jobs,
                 );
             }
-            number = slot_number(run, procs, policy, lines, ended, jobs, &named);
+            number = slot_number(s.run, procs, policy, lines, ended, jobs, &s.named);
             if is_worked(number, jobs) {
-                run = slot::work_run(run, procs, policy, lines, &named, &mut jobs, &mut calm);
+                s.run = slot::work_run(s.run, procs, policy, lines, &s.named, &mut jobs, &mut calm);
             }
         }
         scan = next_scan(scan, number);
         lines = next_line(lines, number);
         i += 1;
     }
-    log_of(run, named, scan, lines, next, jobs, calm, number)
+    log_of(s.run, s.named, scan, lines, next, jobs, calm, number)
 }
 
 // The log is over: what is at fault in it, if anything is.
@@ -355,6 +340,6 @@ pub fn check_log(
     }
     let free = counts::free_counts(procs, table);
     let first = open_log();
-    let last = feed(first, procs, policy, table, free, end, trace, log);
+    let last = feed(first, procs, policy, table, &free, end, trace, log);
     close_log(last, end)
 }

@@ -20,10 +20,12 @@ isNormal (Demoted left due) = false
 abbrev pub Early : ℕ → Type 0
 Early now = now ≤ 4000000000
 
--- the task at i stands in the table, and its deadline is a short one
-pub record Startable (table : List ℕ) (i : ℕ) : Type 0 where
+-- the task at i stands in the table, and what its job starts with is small
+pub record Startable (table : List ℕ) (i free : ℕ) : Type 0 where
   pub inside : i < taskCount table
   pub short : deadline table i ≤ maxPeriod
+  pub brief : execution table i ≤ maxPeriod
+  pub few : free ≤ maxPeriod
 
 -- a task with the job that step 2 gives it, its free count told
 abbrev pub startedTask : List ℕ → ℕ → ℕ → ℕ → Task → Task
@@ -39,8 +41,11 @@ abbrev pub readiedTask : List ℕ → ℕ → ℕ → Bool → ℕ → Task → 
 readiedTask table i free released now t = pick released (startedTask table i free now t) (judgedTask now t)
 
 -- step 3, where it is told whether the job is demoted
+abbrev pub demotedJob : Job → Job
+demotedJob j = Demoted (leftOf j) (dueOf j)
+
 abbrev pub demotedIf : Bool → Task → Task
-demotedIf is t = pick is (withJob t (Demoted (leftOf (t .job)) (dueOf (t .job)))) t
+demotedIf is t = pick is (withJob t (demotedJob (t .job))) t
 
 -- step 4, where it is told whether free counts go down
 abbrev pub loweredIf : Bool → Job → Job

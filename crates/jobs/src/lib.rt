@@ -8,7 +8,8 @@ ghost use Rattle.rules.specs.Limits.{maxTasks};
 ghost use Rattle.rules.specs.Slot.{isPresent, isDemoted, leftOf, freeOf, dueOf, isMissed, judgedTask, demotes, isDemotedNow, loweredJob};
 ghost use Rattle.rules.specs.Slot.{loweredTask, isLast, workedJob, workedTask};
 ghost use Rattle.rules.specs.Policies.{demoting};
-ghost use Rattle.jobs.specs.Tasks.{isNormal, Early, Startable, startedTask, readiedTask, demotedIf, loweredIf, workedIf, workedOn};
+ghost use Rattle.jobs.specs.Tasks.{isNormal, Early, Startable, startedTask, readiedTask, demotedJob, demotedIf, loweredIf};
+ghost use Rattle.jobs.specs.Tasks.{workedIf, workedOn};
 use rules::Job;
 use rules::Task;
 
@@ -65,8 +66,8 @@ pub fn left_of(j: Job) -> u32
             left,
             free: _,
             due: _,
-        } => left,
-        Job::Demoted { left, due: _ } => left,
+        } => left as u32,
+        Job::Demoted { left, due: _ } => left as u32,
     }
 }
 
@@ -79,7 +80,7 @@ pub fn free_of(j: Job) -> u32
             left: _,
             free,
             due: _,
-        } => free,
+        } => free as u32,
         Job::Demoted { left: _, due: _ } => 0,
     }
 }
@@ -144,7 +145,7 @@ pub fn judged_task(t: Task, clock: u32) -> Task
 // Steps 1 and 2 for the task at i: a released task has its new job, whatever it had.
 pub fn readied_task(t: Task, table: &[u32], i: usize, free: u32, released: bool, clock: u32) -> Task
     requires { ⌜ Early clock ⌝ }
-    requires { ⌜ (released ≡ true → Startable (now table) i) ⌝ }
+    requires { ⌜ (released ≡ true → Startable (now table) i free) ⌝ }
     ensures { λ r. ⌜ r ≡ readiedTask (now (table .entry)) i free released clock t ⌝ }
 {
     let next = clock + 1;
@@ -155,8 +156,8 @@ pub fn readied_task(t: Task, table: &[u32], i: usize, free: u32, released: bool,
             number: t.number,
             last: next,
             job: Job::Normal {
-                left: execution,
-                free: free,
+                left: execution as u16,
+                free: free as u16,
                 due: due,
             },
         }
@@ -211,17 +212,29 @@ pub fn is_changed(t: Task, released: bool, policy: u32, clock: u32) -> bool
     is_demoted_under(t, policy)
 }
 
+fn demoted_job(j: Job) -> Job
+    ensures { λ r. ⌜ r ≡ demotedJob j ⌝ }
+{
+    match j {
+        Job::Idle => Job::Demoted { left: 0, due: 0 },
+        Job::Normal { left, free: _, due } => Job::Demoted {
+            left: left,
+            due: due,
+        },
+        Job::Demoted { left: _, due: _ } => j,
+    }
+}
+
 pub fn demoted_task(t: Task, is: bool) -> Task
     ensures { λ r. ⌜ r ≡ demotedIf is t ⌝ }
 {
     if is {
         let j = t.job;
-        let l = left_of(j);
-        let d = due_of(j);
+        let k = demoted_job(j);
         Task {
             number: t.number,
             last: t.last,
-            job: Job::Demoted { left: l, due: d },
+            job: k,
         }
     } else {
         t

@@ -1,5 +1,5 @@
 -- Loops that write an array in order towards a list that is known beforehand, and loops that write over a slice: what holds of them at each
--- turn, and how it goes on. Cited by the proofs of the loops in counts, queue, slot and reader.
+-- turn, and how it goes on. Cited by the proofs of the loops in counts, choice, slot, slots and reader.
 use mathlib.Core.Path.{_≡_, refl, ap, sym, _∙_}
 use mathlib.Core.List.{List, _++_, append-nil}
 use Prim.Native.Nat.{ℕ, suc, _+_, _-_, _≤_, _<_}

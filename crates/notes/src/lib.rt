@@ -68,7 +68,7 @@ fn note_task(out: &mut [u32], p: usize, finished: bool, demoted: bool, missed: b
 // Writes what happened to each job in a slot.
 fn note_all(
     out: &mut [u32],
-    place: &[usize; MAX_TASKS],
+    place: &[u16; MAX_TASKS],
     finished: &[bool; MAX_TASKS],
     demoted: &[bool; MAX_TASKS],
     missed: &[bool; MAX_TASKS],
@@ -86,7 +86,7 @@ fn note_all(
         let mis = missed[i];
         if is_event(fin, dem, mis) {
             let p = place[i];
-            note_task(out, p, fin, dem, mis, clock);
+            note_task(out, p as usize, fin, dem, mis, clock);
         }
         i += 1;
     }
@@ -114,7 +114,7 @@ fn any_event(
 // Writes what a slot changes in the records; in most slots that is nothing.
 pub fn note_slot(
     out: &mut [u32],
-    place: &[usize; MAX_TASKS],
+    place: &[u16; MAX_TASKS],
     finished: &[bool; MAX_TASKS],
     demoted: &[bool; MAX_TASKS],
     missed: &[bool; MAX_TASKS],

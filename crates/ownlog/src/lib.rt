@@ -66,6 +66,7 @@ pub fn put_slots(
     let mut run = play.run;
     let mut next = play.next;
     let mut clock = play.clock;
+    let mut bound: u64 = 0;
     let mut at: usize = 0;
     while fits_another(clock, end, at, out.len()) {
         let mut jobs: usize = 0;
@@ -84,6 +85,7 @@ pub fn put_slots(
             counts,
             &released,
             clock,
+            &mut bound,
             &mut jobs,
             &mut missed,
             &mut demoted,
@@ -96,9 +98,5 @@ pub fn put_slots(
         clock += 1;
     }
     *written = at;
-    Play {
-        run: run,
-        next: next,
-        clock: clock,
-    }
+    Play { run, next, clock }
 }

@@ -256,13 +256,13 @@ fn follow_file(
     procs: u32,
     policy: u32,
     table: &[u32],
-    counts: [u32; MAX_TASKS],
+    counts: &[u32; MAX_TASKS],
     end: u32,
     trace: &[u32],
     failed: &mut bool,
 ) -> Log
     requires { ⌜ Accepted (caseOf procs policy (now table) end (now trace)) ⌝ }
-    requires { ⌜ Counts procs (now table) counts ⌝ }
+    requires { ⌜ Counts procs (now table) (now counts) ⌝ }
     ensures { λ r. ⌜ Followed (caseOf procs policy (now (table .entry)) end (now (trace .entry))) r ⌝ }
 {
     let mut piece = io::large_buffer();
@@ -338,7 +338,7 @@ fn judge_file(fd: i32, procs: u32, policy: u32, table: &[u32], end: u32, trace: 
 {
     let mut failed = false;
     let free = counts::free_counts(procs, table);
-    let log = follow_file(fd, procs, policy, table, free, end, trace, &mut failed);
+    let log = follow_file(fd, procs, policy, table, &free, end, trace, &mut failed);
     if failed {
         fail(b"thrumcomb: read");
         return;

@@ -18,7 +18,7 @@ use Rattle.rules.specs.declared.Job.the-variants.{Idle, Normal, Demoted}
 use Rattle.rules.specs.declared.Run.{Run}
 use Rattle.lists.specs.Sums.{count-le}
 use Rattle.lists.specs.Holds.{holds-says, holds-same}
-use Rattle.queue.specs.Turns.{turn, turn-sooner, idle-due, low-turn}
+use Rattle.choice.specs.Turns.{turn, turn-sooner, idle-due, low-turn}
 use Rattle.rule.proofs.Extremes.{least, greatest, least-top, extremes}
 
 -- no turn of a job that waits: the largest number of 64 bits

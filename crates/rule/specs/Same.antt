@@ -13,7 +13,7 @@ use Rattle.rules.specs.Slot.{Setup, TaskSet, jobAt, present, jobsNow, lowered}
 use Rattle.rules.specs.Log.{wronged, keepsRule}
 use Rattle.lists.specs.Sums.{count-cong}
 use Rattle.lists.specs.Holds.{holds-same}
-use Rattle.queue.specs.Lowered.{Alike, lowered-alike}
+use Rattle.choice.specs.Lowered.{Alike, lowered-alike}
 
 module _ (g : Setup) (now : ℕ) (r s : Run) (runs others : TaskSet)
     (alike : (i : ℕ) → i < maxTasks → Alike (g .policy) now (jobAt r i) (jobAt s i))

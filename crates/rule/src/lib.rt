@@ -83,12 +83,12 @@ pub fn keeps(
         if named[i] {
             count += 1;
             if there {
-                running = greater(running, queue::turn_of(j, policy, clock));
+                running = greater(running, choice::turn_of(j, policy, clock));
             } else {
                 all_there = false;
             }
         } else if there {
-            waiting = lesser(waiting, queue::turn_of(j, policy, clock));
+            waiting = lesser(waiting, choice::turn_of(j, policy, clock));
         }
         i += 1;
     }

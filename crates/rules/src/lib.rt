@@ -20,11 +20,12 @@ pub const RELEASE_WIDTH: usize = 2;
 pub const RECORD_WIDTH: usize = 3;
 
 // The state of a task: no job, a normal one or a demoted one.
-// `left` is the remaining execution, `free` the remaining free count, `due` the absolute deadline.
+// `left` is the remaining execution, `free` the remaining free count, `due` the absolute deadline. Neither of the first two is above
+// MAX_PERIOD, so 16 bits hold them: a run is copied where it is handed on, and each copy is on the stack.
 pub enum Job {
     Idle,
-    Normal { left: u32, free: u32, due: u32 },
-    Demoted { left: u32, due: u32 },
+    Normal { left: u16, free: u16, due: u32 },
+    Demoted { left: u16, due: u32 },
 }
 
 // A task in a run: its number, one more than the time of its last release (0 before the first), its state.

@@ -1,3 +1,4 @@
 pub mod Settling
+pub mod Opening
 pub mod Working
 pub mod Slots

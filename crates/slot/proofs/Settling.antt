@@ -26,7 +26,7 @@ use Rattle.lists.specs.Fuse.{fuse, keep-all}
 use Rattle.bridge.specs.Steps.{Full}
 use Rattle.bridge.specs.Jobs.{idle-now}
 use Rattle.jobs.specs.Tasks.{readiedTask, demotedIf}
-use Rattle.queue.proofs.Marks.{nobody, Marking, mark-none, mark-store, mark-keep, mark-all}
+use Rattle.choice.proofs.Marks.{nobody, Marking, mark-none, mark-store, mark-keep, mark-all}
 use Rattle.slot.specs.Stepped.{settledRun, Settles}
 
 -- step 3 for one task under a policy

@@ -6,7 +6,6 @@ use Prim.Native.Nat.{ℕ, _<_}
 use native.Mathlib.Omega.{arith}
 use lib.Dec.{leb, ltb}
 use lib.ListN.{getD}
-use borrow.Author.Tests.{ltb-true, ltb-false}
 use Rattle.rules.specs.Words.{pick, bit, tab}
 use Rattle.rules.specs.Limits.{maxTasks}
 use Rattle.rules.specs.Policies.{demoting}
@@ -22,9 +21,8 @@ use Rattle.lists.specs.Tests.{and-left}
 use Rattle.lists.specs.Fuse.{fuse, same-each}
 use Rattle.bridge.specs.Steps.{Full, demoted-full, lowered-full, readied-full, worked-same}
 use Rattle.jobs.specs.Tasks.{workedIf, workedOn}
-use Rattle.queue.specs.Queues.{Chosen}
-use Rattle.queue.specs.Lowered.{Alike, lowersTask, lowersIn, lowered-each, lowered-alike}
-use Rattle.queue.proofs.Choice.{chosen-all}
+use Rattle.choice.specs.Keys.{Chosen}
+use Rattle.choice.specs.Lowered.{Alike, lowersTask, lowersIn, lowered-each, lowered-alike}
 use Rattle.slot.specs.Stepped.{Among, settledRun, Settles, Works, Worked, Stepped}
 use Rattle.slot.proofs.Working.{Left}
 
@@ -106,14 +104,6 @@ module _ (g : Setup) (now : ℕ) (s : TaskSet) (r d : Run) (full : Full r) (n : 
             (o i (omega arith)));
         missed-next = v .missed-next;
       }
-
--- ---- whether a choice is to be made
-pub waits : (procs n : ℕ) (d : Run) (b : Bool) → n ≡ jobsNow d → b ≡ ltb procs n → b ≡ true → procs < jobsNow d
-waits procs n d b e q t = omega (arith, e, ltb-true procs n (sym q ∙ t))
-
-pub unchosen : (procs policy now n : ℕ) (d : Run) (ps : List Bool) (b : Bool) → n ≡ jobsNow d → b ≡ ltb procs n → b ≡ false
-    → ps ≡ tab (present d) 0 maxTasks → Chosen procs policy now d ps
-unchosen procs policy now n d ps b e q f h = chosen-all procs policy now d ps (omega (arith, e, ltb-false procs n (sym q ∙ f))) h
 
 -- only jobs that are there are chosen
 pub among : (procs policy now : ℕ) (d : Run) (rs : List Bool) → Chosen procs policy now d rs → Among (members rs) d

@@ -25,7 +25,7 @@ use Rattle.lists.specs.Tests.{and-left, and-right, not-is}
 use Rattle.bridge.specs.Steps.{Full}
 use Rattle.bridge.specs.Jobs.{idle-now}
 use Rattle.jobs.specs.Tasks.{workedOn}
-use Rattle.queue.proofs.Marks.{nobody, Marking, mark-none, mark-store, mark-keep, mark-all}
+use Rattle.choice.proofs.Marks.{nobody, Marking, mark-none, mark-store, mark-keep, mark-all}
 use Rattle.slot.specs.Stepped.{missedIn}
 use Rattle.bridge.specs.Quiet.{changes}
 use Rattle.slot.specs.Calm.{Ahead}

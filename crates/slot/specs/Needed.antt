@@ -12,5 +12,5 @@ use Rattle.jobs.specs.Tasks.{Early, Startable}
 pub record Needed (g : Setup) (now : ℕ) (counts : List ℕ) (released : List Bool) : Type 0 where
   pub some : 1 ≤ g .procs
   pub early : Early now
-  pub startable : (i : ℕ) → getD released i false ≡ true → Startable (g .table) i
+  pub startable : (i : ℕ) → getD released i false ≡ true → Startable (g .table) i (getD counts i 0)
   pub counted : (i : ℕ) → getD released i false ≡ true → getD counts i 0 ≡ freeCountIn g i

@@ -14,11 +14,14 @@ use Rattle.rules.specs.Slot.{jobAt, isMissed, missed}
 use Rattle.rules.specs.Replay.{setupIn, releasedAt, fresh, stateFrom, stateAt, ranAt, finishedAt, missedAt, demotedAt, recordBy, numbers}
 use Rattle.lists.specs.Lists.{tab-at, tab-cong, members}
 use Rattle.legal.specs.Legal.{Legal}
+use Rattle.bridge.specs.Stands.{state-full}
 use Rattle.bridge.specs.Records.{at-first}
 use Rattle.bridge.specs.Turn.{lastPlace, Reached}
 use Rattle.bridge.specs.Events.{turn-event}
 use Rattle.bridge.specs.Notes.{noteTo, Handed, noted-all}
-use Rattle.slot.specs.Stepped.{Stepped}
+use Rattle.choice.specs.Keys.{Chosen}
+use Rattle.slot.specs.Stepped.{Settles, Worked, Stepped}
+use Rattle.slot.proofs.Slots.{stepped}
 use Rattle.notes.specs.Noted.{Roomy}
 use Rattle.traces.specs.Traces.{releases}
 use Rattle.traces.specs.Step.{same-step, next-run}
@@ -50,6 +53,16 @@ pub last-ran : (c : Case) (t : ℕ) (rs : List Bool) → rs ≡ tab (ranAt c t) 
 last-ran c t rs h k e = let z : t ≡ k = omega (arith, e) in rw (← z) h
 
 -- ---- one slot
+-- the parts of a slot of the case, with what is released at its time, are the slot
+pub slot-of : (c : Case) (clock : ℕ) (rel : List Bool) → rel ≡ releases (c .trace) (releaseCount (c .trace)) clock
+    → (run : Run) → run ≡ stateAt c clock
+    → (d : Run) (jobs : ℕ) (ms ds ps : List Bool) → Settles (setupIn c) clock (members rel) run d jobs ms ds ps
+    → (rs : List Bool) → Chosen (c .procs) (c .policy) clock d rs
+    → (run′ : Run) (fs ls : List Bool) → Worked (c .procs) (c .policy) clock (members rs) d run′ fs ls
+    → Stepped (setupIn c) clock (members rel) run run′ jobs ms ds rs fs ls
+slot-of c clock rel re run e d jobs ms ds ps p rs q run′ fs ls w =
+    stepped (setupIn c) clock (members rel) run d (rw e (state-full c clock)) jobs ms ds ps p rs q run′ fs ls w
+
 module _ (c : Case) (clock : ℕ) (rel : List Bool) (re : rel ≡ releases (c .trace) (releaseCount (c .trace)) clock) where
   module _ (run : Run) (e : run ≡ stateAt c clock) (run′ : Run) (jobs : ℕ) (ms ds rs fs ls : List Bool)
       (q : Stepped (setupIn c) clock (members rel) run run′ jobs ms ds rs fs ls) where

@@ -3,13 +3,14 @@
 use mathlib.Core.Path.{_≡_, ap, sym, _∙_}
 use mathlib.Core.Bool.{Bool, true, false, false≢true}
 use mathlib.Core.List.{List}
-use Prim.Native.Nat.{ℕ, _<_}
+use Prim.Native.Nat.{ℕ, _≤_, _<_}
 use native.Mathlib.Decide.{decLt}
 use native.Mathlib.Omega.{arith}
 use lib.ListN.{length, getD, List·getD-eq-default}
 use Rattle.rules.specs.declared.Run.{Run}
 use Rattle.rules.specs.Limits.{maxTasks}
-use Rattle.rules.specs.Case.{Case, taskCount, releaseCount}
+use Rattle.rules.specs.Case.{Case, taskCount, deadline, releaseCount}
+use Rattle.rules.specs.Counts.{count, freeCount}
 use Rattle.rules.specs.Slot.{TaskSet, Setup, runOf, judged, joinedTask, joined, readied}
 use Rattle.rules.specs.Replay.{setupIn, releasedIn, releasedAt}
 use Rattle.lists.specs.Lists.{mapFrom-cong, tab-long, tab-at}
@@ -22,6 +23,11 @@ use Rattle.traces.specs.Traces.{Orderly, releases}
 
 pub orderly : (c : Case) → Legal c → Orderly (c .trace)
 orderly c g = record { named = λ j h. (g .named j h .0, omega (arith, g .named j h .1, g .tasks-few)); sorted = g .in-order }
+
+-- a free count is at most the deadline
+free-few : (m : ℕ) (ts : List ℕ) (i : ℕ) → freeCount m ts i ≤ deadline ts i
+unfolding freeCount count
+free-few m ts i = omega arith
 
 -- steps 1 and 2 go by the members below 32 of the set that is released
 pub readied-same : (g : Setup) (now : ℕ) (s u : TaskSet) (r : Run) → Full r → ((i : ℕ) → i < maxTasks → s i ≡ u i)
@@ -54,6 +60,11 @@ module _ (c : Case) (g : Legal c) (clock : ℕ) (more : clock < c .end) (rel : L
     some = g .procs-some;
     early = omega (arith, g .end-small);
     startable = λ i e. (let m = g .good i (in-table i e) in
-        record { inside = omega (arith, in-table i e); short = omega (arith, m .within, m .small) });
+        record {
+          inside = omega (arith, in-table i e);
+          short = omega (arith, m .within, m .small);
+          brief = omega (arith, m .fits, m .within, m .small);
+          few = omega (arith, q i (in-table i e), free-few (c .procs) (c .table) i, m .within, m .small);
+        });
     counted = λ i e. q i (in-table i e);
   }

@@ -5,7 +5,7 @@ use lib.ListN.{length}
 use Rattle.rules.specs.Limits.{maxReleases, recordWidth}
 use Rattle.rules.specs.Answers.{result}
 use Rattle.rules.specs.Calls.{replayAnswer, replayRoom}
-use Rattle.legal.specs.Legal.{legal, accepted-procs, accepted-table, replay-clear}
+use Rattle.legal.specs.Legal.{legal, replay-clear}
 use Rattle.legal.specs.Settled.{refuses, leaves, settles, puts, clear}
 use Rattle.engine.proofs.Calls.{still-fits, total, totals}
 use borrow.Author.Needs.{needs}
@@ -21,24 +21,19 @@ returns c =
     let e = c .before .replay-fault .ensures in
     record { answer = refuses _ _ e _ (c .if1 .taken); left = leaves _ _ e _ _ (c .if1 .taken) }
 
-free-counts-requires : tie.Need-free-counts-requires
-free-counts-requires c κs =
-    let w = replay-clear _ _ (clear _ _ (c .before .replay-fault .ensures) (c .if1 .left)) in
-    (accepted-table _ (w .0), accepted-procs _ (w .0))
-
 replay-run-requires : tie.Need-replay-run-requires
 replay-run-requires c κs =
-    let w = replay-clear _ _ (clear _ _ (c .before .before .before .replay-fault .ensures) (c .before .before .if1 .left)) in
-    (w .0, (c .before .free-counts .ensures, w .1))
+    let w = replay-clear _ _ (clear _ _ (c .before .before .replay-fault .ensures) (c .before .if1 .left)) in
+    (w .0, w .1)
 
 -- the records are in the room, and there are few
 fits : (d : tie.After-release-count) → (d .release-count .result * recordWidth
-    ≤ length (d .before .before .before .replay-run .last .1 .1 .1 .1 .1 .1 .0))
+    ≤ length (d .before .before .before .replay-run .last .1 .1 .1 .1 .1 .0))
     × (d .release-count .result ≤ maxReleases)
 fits d =
     let run = d .before .before .before in
-    let w = replay-clear _ _ (clear _ _ (run .before .before .before .before .replay-fault .ensures)
-    (run .before .before .before .if1 .left)) in
+    let w = replay-clear _ _ (clear _ _ (run .before .before .before .replay-fault .ensures)
+    (run .before .before .if1 .left)) in
     rw (d .release-count .ensures) (still-fits _ _ _ (run .replay-run .ensures), legal _ (w .0) .releases-few)
 
 release-count-requires : tie.Need-release-count-requires
@@ -62,8 +57,8 @@ returns-2 c =
     let d = c .before .before .before .before .before .before in
     let n = d .release-count .ensures in
     let run = d .before .before .before in
-    let e = run .before .before .before .before .replay-fault .ensures in
-    let h = run .before .before .before .if1 .left in
+    let e = run .before .before .before .replay-fault .ensures in
+    let h = run .before .before .if1 .left in
     let o = run .replay-run .ensures in
     record {
       answer = ap result (totals _ _ _ _ _ _ (total _ _ _ o 1 _ (rw n at (c .before .before .before .before .marked-in .ensures)))
@@ -78,7 +73,6 @@ replay-spec =
     (tie.spec
     replay-fault-requires
     returns
-    free-counts-requires
     replay-run-requires
     release-count-requires
     marked-in-requires

@@ -14,16 +14,13 @@ release-count-requires c κs = search needs
 open-records-requires : tie.Need-open-records-requires
 open-records-requires c κs = search needs
 
-fresh-run-requires : tie.Need-fresh-run-requires
-fresh-run-requires c κs = search needs
-
 walk-requires : tie.Need-walk-requires
 walk-requires c κs =
-    let at-records = c .before .before .before .before in
+    let at-records = c .before .before .before in
     let q = at-records .before .before .before .before .before .before .pre in
     let o = room-open _ (legal _ (q .0)) _ _
     (rw (at-records .before .before .release-count .ensures) at (at-records .open-records .ensures)) in
-    (q .0, (q .1 .0, (c .before .fresh-run .ensures, (omega arith, λ z. o ∙ sym (same-room _ 0 0 _ _ o)))))
+    (q .0, (omega arith, λ z. o ∙ sym (same-room _ 0 0 _ _ o)))
 
 same-length : tie.Need-same-length
 same-length c = search needs
@@ -31,7 +28,7 @@ same-length c = search needs
 returns : tie.Need-returns
 unfolding roomAfter
 returns c =
-    let at-records = c .before .before .before .before .before .before .before in
+    let at-records = c .before .before .before .before .before .before in
     let start = at-records .before .before .before .before .before .before in
     let o = room-open _ (legal _ (start .pre .0)) _ _
     (rw (at-records .before .before .release-count .ensures) at (at-records .open-records .ensures)) in
@@ -39,4 +36,4 @@ returns c =
 
 pub replay-run-spec : {M : Type 1} → statement M
 replay-run-spec =
-    tie.close (tie.spec release-count-requires open-records-requires fresh-run-requires walk-requires same-length returns)
+    tie.close (tie.spec release-count-requires open-records-requires walk-requires same-length returns)

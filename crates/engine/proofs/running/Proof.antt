@@ -7,7 +7,7 @@ use native.Mathlib.Numerals.{add-one}
 use native.Mathlib.Omega.{arith}
 use Rattle.rules.specs.Answers.{result}
 use Rattle.rules.specs.Calls.{runningAnswer}
-use Rattle.legal.specs.Legal.{legal, accepted-procs, accepted-table, running-clear}
+use Rattle.legal.specs.Legal.{legal, running-clear}
 use Rattle.legal.specs.Settled.{refuses, settles, clear}
 use Rattle.engine.proofs.Powers.{array-number}
 use borrow.Author.Needs.{needs}
@@ -21,17 +21,9 @@ returns : tie.Need-returns
 unfolding runningAnswer
 returns c = record { answer = refuses _ _ (c .before .running-fault .ensures) _ (c .if1 .taken) }
 
-free-counts-requires : tie.Need-free-counts-requires
-free-counts-requires c κs =
-    let w = running-clear _ _ (clear _ _ (c .before .running-fault .ensures) (c .if1 .left)) in
-    (accepted-table _ (w .0), accepted-procs _ (w .0))
-
-fresh-run-requires : tie.Need-fresh-run-requires
-fresh-run-requires c κs = search needs
-
 add-walk : tie.Need-add-walk
 add-walk c =
-    let w = running-clear _ _ (clear _ _ (c .before .before .before .running-fault .ensures) (c .before .before .if1 .left)) in
+    let w = running-clear _ _ (clear _ _ (c .before .running-fault .ensures) (c .if1 .left)) in
     omega (arith, w .1, legal _ (w .0) .end-small)
 
 slice-aggregate-walk : tie.Need-slice-aggregate-walk
@@ -39,10 +31,10 @@ slice-aggregate-walk c = search needs
 
 walk-requires : tie.Need-walk-requires
 walk-requires c κs =
-    let running-fault = c .before .before .before .before .running-fault in
-    let if1 = c .before .before .before .if1 in
+    let running-fault = c .before .before .running-fault in
+    let if1 = c .before .if1 in
     let w = running-clear _ _ (clear _ _ (running-fault .ensures) (if1 .left)) in
-    (w .0, (c .before .before .free-counts .ensures, (c .before .fresh-run .ensures, (omega (arith, w .1), λ z. absurd (false≢true z)))))
+    (w .0, (omega (arith, w .1), λ z. absurd (false≢true z)))
 
 set-number-requires : tie.Need-set-number-requires
 set-number-requires c κs = search needs
@@ -50,11 +42,11 @@ set-number-requires c κs = search needs
 returns-2 : tie.Need-returns-2
 unfolding runningAnswer
 returns-2 c =
-    let e = c .before .before .before .before .before .before .before .running-fault .ensures in
+    let e = c .before .before .before .before .before .running-fault .ensures in
     let n = c .set-number .ensures ∙ array-number _ _ (c .before .before .walk .ensures .0 _ (add-one _)) in
     record {
       answer = ap (λ (x : ℕ). result (x ∷ [])) n
-          ∙ settles _ _ e _ (c .before .before .before .before .before .before .if1 .left);
+          ∙ settles _ _ e _ (c .before .before .before .before .if1 .left);
     }
 
 pub running-spec : {M : Type 1} → statement M
@@ -63,8 +55,6 @@ running-spec =
     (tie.spec
     running-fault-requires
     returns
-    free-counts-requires
-    fresh-run-requires
     add-walk
     slice-aggregate-walk
     walk-requires

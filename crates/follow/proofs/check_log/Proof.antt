@@ -22,17 +22,17 @@ open-log-requires c κs = search needs
 
 feed-requires : tie.Need-feed-requires
 feed-requires c κs =
-    let ok = case-clear _ _ (c .before .before .before .case-fault .ensures) (c .before .before .if1 .left) in
-    (ok, (c .before .free-counts .ensures, record { fed = _; follows = c .open-log .ensures _ }))
+    let ok = case-clear _ _ (c .before .before .before .before .case-fault .ensures) (c .before .before .before .if1 .left) in
+    (ok, (c .before .before .free-counts .ensures, record { fed = _; follows = c .before .open-log .ensures _ }))
 
 close-log-requires : tie.Need-close-log-requires
-close-log-requires c κs = c .feed .ensures _ (c .before .open-log .ensures _) .few
+close-log-requires c κs = c .feed .ensures _ (c .before .before .open-log .ensures _) .few
 
 returns-2 : tie.Need-returns-2
 returns-2 c =
-    let ok = case-clear _ _ (c .before .before .before .before .before .case-fault .ensures)
-    (c .before .before .before .before .if1 .left) in
-    let fed = c .before .feed .ensures _ (c .before .before .open-log .ensures _) in
+    let ok = case-clear _ _ (c .before .before .before .before .before .before .case-fault .ensures)
+    (c .before .before .before .before .before .if1 .left) in
+    let fed = c .before .feed .ensures _ (c .before .before .before .open-log .ensures _) in
     record { answer = log-told _ _ _ ok (c .close-log .ensures _ _ refl fed) }
 
 pub check-log-spec : {M : Type 1} → statement M

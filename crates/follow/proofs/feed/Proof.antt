@@ -23,6 +23,7 @@ use Rattle.bridge.specs.Turn.{Reached}
 use Rattle.slot.specs.Calm.{Ahead}
 use Rattle.traces.specs.Traces.{due}
 use Rattle.feeds.specs.Feed.{namesHeard}
+use Rattle.feeds.specs.LineScan.{lineEnd}
 use Rattle.feeds.specs.Bounds.{LineSmall}
 use Rattle.heard.specs.Scans.{scanAs, endedAs}
 use Rattle.follow.specs.Follows.{logOf, Followed, Opens, Closed}
@@ -34,29 +35,29 @@ use Rattle.follow.proofs.feed.Statement.{statement}
 use Rattle.follow.proofs.feed.Tie as tie
 
 abbrev Inv-loop : tie.InvT-loop
-Inv-loop procs policy table end trace piece counts run₀ named₀ scan₀ lines₀ next₀ jobs₀ calm₀ number₀ i₀ run named scan
-    lines next jobs calm number i =
-    Feeding (caseOf procs policy table end trace) piece (logOf run₀ named₀ scan₀ lines₀ next₀ jobs₀ calm₀ number₀) i
-    (logOf run named scan lines next jobs calm number)
+Inv-loop procs policy table counts end trace piece s₀ scan₀ lines₀ next₀ jobs₀ calm₀ number₀ i₀ s scan lines next jobs calm
+    number i =
+    Feeding (caseOf procs policy table end trace) piece (logOf (s₀ .run) (s₀ .named) scan₀ lines₀ next₀ jobs₀ calm₀ number₀) i
+    (logOf (s .run) (s .named) scan lines next jobs calm number)
 
 abbrev μ-loop : tie.MeasureT-loop
-μ-loop procs policy table end trace piece counts run₀ named₀ scan₀ lines₀ next₀ jobs₀ calm₀ number₀ i₀ run named scan
-    lines next jobs calm number i =
+μ-loop procs policy table counts end trace piece s₀ scan₀ lines₀ next₀ jobs₀ calm₀ number₀ i₀ s scan lines next jobs calm
+    number i =
     length piece - i
 
 -- ---- what a turn starts from
 abbrev caseIn : tie.At-loop Inv-loop μ-loop → Case
-caseIn l = let a = l .before .before .before .before .before .before .before .args in
+caseIn l = let a = l .before .before .before .before .before .args in
     caseOf (a .procs) (a .policy) (a .table .now) (a .end) (a .trace .now)
 
 abbrev pieceIn : tie.At-loop Inv-loop μ-loop → List ℕ
-pieceIn l = l .before .before .before .before .before .before .before .args .piece .now
+pieceIn l = l .before .before .before .before .before .args .piece .now
 
 some : (l : tie.At-loop Inv-loop μ-loop) → Followed (caseIn l)
-    (logOf (l .loop .run) (l .loop .named) (l .loop .scan) (l .loop .lines) (l .loop .next) (l .loop .jobs) (l .loop .calm)
+    (logOf (l .loop .s .run) (l .loop .s .named) (l .loop .scan) (l .loop .lines) (l .loop .next) (l .loop .jobs) (l .loop .calm)
     (l .loop .number))
 some l = feeding-some (caseIn l) (pieceIn l) _ _ (l .loop .i) (l .loop .inv)
-    (l .before .before .before .before .before .before .before .pre .1 .1)
+    (l .before .before .before .before .before .pre .1 .1)
 
 more : (c : tie.Then1 Inv-loop μ-loop) → (c .before .before .loop .i < length (pieceIn (c .before .before)))
     × (c .before .before .loop .number ≡ 0)
@@ -64,13 +65,13 @@ more c = goes-more (c .before .before .loop .i) (length (pieceIn (c .before .bef
     (sym (c .before .goes-on .ensures) ∙ c .if1 .taken)
 
 asked : (c : tie.Then1 Inv-loop μ-loop) → let l = c .before .before in
-    (length (l .loop .named) ≡ maxTasks) × LineSmall (scanAs (l .loop .scan) (l .loop .named))
-    × (l .loop .lines < caseIn l .end → Full (l .loop .run) × Reached (caseIn l .trace) (l .loop .next) (l .loop .lines)
-    × Ahead (caseIn l .policy) (l .loop .lines) (l .loop .run) (l .loop .jobs) (l .loop .calm))
+    (length (l .loop .s .named) ≡ maxTasks) × LineSmall (scanAs (l .loop .scan) (l .loop .s .named))
+    × (l .loop .lines < caseIn l .end → Full (l .loop .s .run) × Reached (caseIn l .trace) (l .loop .next) (l .loop .lines)
+    × Ahead (caseIn l .policy) (l .loop .lines) (l .loop .s .run) (l .loop .jobs) (l .loop .calm))
 asked c = asks _ _ _ _ _ _ _ _ _ (more c .1) (some (c .before .before))
 
 loop-holds : tie.Need-loop-holds Inv-loop μ-loop
-loop-holds c = λ f w. feeding-none _ (c .before .before .before .before .before .before .args .piece .now) _ f w
+loop-holds c = λ f w. feeding-none _ (c .before .before .before .before .args .piece .now) _ f w
 
 goes-on-requires : tie.Need-goes-on-requires Inv-loop μ-loop
 goes-on-requires c κs = search needs
@@ -86,9 +87,9 @@ log-of-requires c κs = search needs
 -- ---- the line is heard
 -- how far the piece is fed, and what stands there
 fed : (c : tie.After-scan-line Inv-loop μ-loop) → let l = c .before .before .before .before .before in
-    let a = l .before .before .before .before .before .before .before .args in
+    let a = l .before .before .before .before .before .args in
     Feeding (caseIn l) (pieceIn l) (a .log) (c .scan-line .last .1 .1 .1 .0)
-    (logOf (l .loop .run) (c .scan-line .last .1 .1 .1 .1 .0) (c .scan-line .result) (l .loop .lines) (l .loop .next) (l .loop .jobs)
+    (logOf (l .loop .s .run) (c .scan-line .last .1 .1 .1 .1 .0) (c .scan-line .result) (l .loop .lines) (l .loop .next) (l .loop .jobs)
     (l .loop .calm) (l .loop .number))
 fed c =
     let l = c .before .before .before .before .before in
@@ -104,9 +105,10 @@ there c =
 
 returns : tie.Need-returns Inv-loop μ-loop
 returns c = λ f w.
-    let s = c .before .before in
+    let s = c .before .before .before .before in
     let l = s .before .before .before .before .before in
-    rw (c .log-of .ensures) (feeding-all (caseIn l) (pieceIn l) _ _ (s .scan-line .last .1 .1 .1 .0) (omega (arith, c .before .if2 .taken))
+    rw (c .log-of .ensures) (feeding-all (caseIn l) (pieceIn l) _ _ (s .scan-line .last .1 .1 .1 .0)
+    (omega (arith, c .before .before .before .if2 .taken))
     (fed s) f w)
 
 line-end-requires : tie.Need-line-end-requires Inv-loop μ-loop
@@ -131,14 +133,14 @@ early c = ltb-true (loopOf (c .before) .loop .lines) (caseIn (loopOf (c .before)
     (and-right (eqb (c .before .has-slot .last .1 .1 .1 .0) 0) _ (sym (c .before .has-slot .ensures .1) ∙ c .if3 .taken))
 
 known : (c : tie.Then3 Inv-loop μ-loop) → let l = loopOf (c .before) in
-    Full (l .loop .run) × Reached (caseIn l .trace) (l .loop .next) (l .loop .lines)
-    × Ahead (caseIn l .policy) (l .loop .lines) (l .loop .run) (l .loop .jobs) (l .loop .calm)
+    Full (l .loop .s .run) × Reached (caseIn l .trace) (l .loop .next) (l .loop .lines)
+    × Ahead (caseIn l .policy) (l .loop .lines) (l .loop .s .run) (l .loop .jobs) (l .loop .calm)
 known c = asked (turnOf (c .before)) .2 (early c)
 
 open-at-requires : tie.Need-open-at-requires Inv-loop μ-loop
 open-at-requires c κs =
     let t = c .before .before .before .before .before in
-    let start = loopOf (t .before) .before .before .before .before .before .before .before in
+    let start = loopOf (t .before) .before .before .before .before .before in
     record {
       end = start .args .end;
       accepted = start .pre .0;
@@ -149,26 +151,36 @@ open-at-requires c κs =
 
 -- it is open, by its steps or as it stood
 opens-here : (c : tie.Joined4 Inv-loop μ-loop) → let l = loopOf (c .before .before .before) in
-    Opens (setupIn (caseIn l)) (caseIn l .trace) (l .loop .lines) (l .loop .run) (c .if4 .run) (c .if4 .next) (c .if4 .jobs)
+    Opens (setupIn (caseIn l)) (caseIn l .trace) (l .loop .lines) (l .loop .s .run) (c .if4 .s .run) (c .if4 .next) (c .if4 .jobs)
 opens-here c =
     let l = loopOf (c .before .before .before) in
     let k = known (c .before .before) in
-    let start = l .before .before .before .before .before .before .before in
+    let start = l .before .before .before .before .before in
     ⊎-elim
     (λ w. rw (w .5, w .6, w .7) (w .4 .ensures))
     (λ w. rw (w .1, w .2, w .3) (opens-calm (caseIn l) (start .pre .0) _ _ _ _ (l .loop .calm) (k .0) (k .1) (k .2)
     (sym (c .before .must-open .ensures) ∙ w .0 .left)))
     (c .if4 .came)
 
+-- and what the line's end left of the set that it names still stands
+heard-here : (c : tie.Joined4 Inv-loop μ-loop) → let h = c .before .before .before in
+    let s = h .before .before .before .before .before in
+    (length (c .if4 .s .named) ≡ maxTasks)
+    × (endedAs (h .before .before .line-end .result) (c .if4 .s .named)
+    ≡ lineEnd (scanAs (s .scan-line .result) (s .scan-line .last .1 .1 .1 .1 .0)))
+heard-here c =
+    let e = c .before .before .before .before .before .line-end in
+    ⊎-elim (λ w. rw (w .5) (e .ensures)) (λ w. rw (w .1) (e .ensures)) (c .if4 .came)
+
 slot-number-requires : tie.Need-slot-number-requires Inv-loop μ-loop
-slot-number-requires c κs = opens-here (c .before) .counted
+slot-number-requires c κs = opens-here (c .before .before .before) .counted
 
 is-worked-requires : tie.Need-is-worked-requires Inv-loop μ-loop
 is-worked-requires c κs = search needs
 
 work-run-requires : tie.Need-work-run-requires Inv-loop μ-loop
 work-run-requires c κs =
-    let j = c .before .before .before .before .before .before .before in
+    let j = c .before .before .before .before .before .before .before .before .before .before .before in
     (omega (arith, some (loopOf (j .before .before .before)) .follows .few), opens-here j .counted)
 
 next-scan-requires : tie.Need-next-scan-requires Inv-loop μ-loop
@@ -179,19 +191,20 @@ next-line-requires c κs = some (loopOf (c .before .before)) .follows .few
 
 -- where no set works there is no job, and the run stays as it is
 idle-here : (c : tie.Else5 Inv-loop μ-loop) → c .before .before .slot-number .result ≡ 0 →
-    let j = c .before .before .before .before in
+    let j = c .before .before .before .before .before .before in
     let h = j .before .before .before in
     let l = loopOf h in
-    (j .if4 .run ≡ worked (members (h .before .before .line-end .last .1 .0)) (lowered (setupIn (caseIn l)) (j .if4 .run)))
-    × Ahead (caseIn l .policy) (suc (l .loop .lines)) (j .if4 .run) (j .if4 .jobs) (l .loop .calm)
+    (j .if4 .s .run ≡ worked (members (j .if4 .s .named)) (lowered (setupIn (caseIn l)) (j .if4 .s .run)))
+    × Ahead (caseIn l .policy) (suc (l .loop .lines)) (j .if4 .s .run) (j .if4 .jobs) (l .loop .calm)
 idle-here c n =
-    let j = c .before .before .before .before in
+    let j = c .before .before .before .before .before .before in
     let h = j .before .before .before in
     let l = loopOf h in
     let o = opens-here j in
-    worked-none (setupIn (caseIn l)) (l .loop .lines) (j .if4 .run) (j .if4 .jobs) (l .loop .calm)
-    (members (h .before .before .line-end .last .1 .0))
-    (opened-whole (caseIn l) (l .loop .lines) (l .loop .run) (j .if4 .run) (j .if4 .next) (j .if4 .jobs) (known (j .before .before) .0) o)
+    worked-none (setupIn (caseIn l)) (l .loop .lines) (j .if4 .s .run) (j .if4 .jobs) (l .loop .calm)
+    (members (j .if4 .s .named))
+    (opened-whole (caseIn l) (l .loop .lines) (l .loop .s .run) (j .if4 .s .run) (j .if4 .next) (j .if4 .jobs)
+    (known (j .before .before) .0) o)
     (o .counted)
     (none (c .before .before .slot-number .result) (j .if4 .jobs) n (sym (c .before .is-worked .ensures) ∙ c .if5 .left))
   where
@@ -203,33 +216,41 @@ closed-here : (c : tie.Joined3 Inv-loop μ-loop) →
     let h = c .before in
     let l = loopOf h in
     let s = h .before .before .before .before .before in
-    Closed (caseIn l) (l .loop .lines) (scanAs (s .scan-line .result) (s .scan-line .last .1 .1 .1 .1 .0)) (l .loop .run) (c .if3 .run)
-    (h .before .before .line-end .last .1 .0) (c .if3 .next) (c .if3 .jobs) (c .if3 .calm) (c .if3 .number)
+    Closed (caseIn l) (l .loop .lines) (scanAs (s .scan-line .result) (s .scan-line .last .1 .1 .1 .1 .0)) (l .loop .s .run)
+    (c .if3 .s .run) (c .if3 .s .named) (c .if3 .next) (c .if3 .jobs) (c .if3 .calm) (c .if3 .number)
 closed-here c =
     let h = c .before in
     let l = loopOf h in
     let e = h .before .before .line-end in
-    let slot = closed-slot (caseIn l) (l .loop .lines) _ (e .result) (e .last .1 .0) (l .loop .run) (e .ensures .0) (e .ensures .1) _
-    (h .has-slot .ensures .0 _) in
     ⊎-elim
     (λ w.
     let t : tie.Then3 Inv-loop μ-loop = record { before = h; if3 = w .0 } in
     let j : tie.Joined4 Inv-loop μ-loop = record { before = record { before = t; must-open = w .1 }; if4 = w .2 } in
-    rw (w .11, w .12, w .13, w .14, w .15)
-    (slot (sym (h .has-slot .ensures .1) ∙ w .0 .taken) _ _ _ _ _ _ _ (known t .0) (opens-here j) (w .4 .ensures _ _)
-    (λ n. (w .10 .ensures .0 _, w .10 .ensures .1))))
+    let d = heard-here j in
+    rw (w .15, w .16, w .17, w .18, w .19)
+    (closed-slot (caseIn l) (l .loop .lines) _ (e .result) (w .2 .s .named) (l .loop .s .run) (d .0) (d .1) _ (h .has-slot .ensures .0 _)
+    (sym (h .has-slot .ensures .1) ∙ w .0 .taken) _ _ _ _ _ _ _ (known t .0) (opens-here j) (w .6 .ensures _ _)
+    (λ n. (w .14 .ensures .0 _, w .14 .ensures .1))))
     (⊎-elim
     (λ w.
     let t : tie.Then3 Inv-loop μ-loop = record { before = h; if3 = w .0 } in
     let j : tie.Joined4 Inv-loop μ-loop = record { before = record { before = t; must-open = w .1 }; if4 = w .2 } in
-    rw (w .7, w .8, w .9, w .10, w .11)
-    (slot (sym (h .has-slot .ensures .1) ∙ w .0 .taken) _ _ _ _ _ _ _ (known t .0) (opens-here j) (w .4 .ensures _ _)
+    let d = heard-here j in
+    rw (w .9, w .10, w .11, w .12, w .13)
+    (closed-slot (caseIn l) (l .loop .lines) _ (e .result) (w .2 .s .named) (l .loop .s .run) (d .0) (d .1) _ (h .has-slot .ensures .0 _)
+    (sym (h .has-slot .ensures .1) ∙ w .0 .taken) _ _ _ _ _ _ _ (known t .0) (opens-here j) (w .6 .ensures _ _)
     (idle-here (record {
-      before = record { before = record { before = record { before = j; named4 = w .3 }; slot-number = w .4 }; is-worked = w .5 };
-      if5 = w .6;
+      before = record {
+        before = record {
+          before = record { before = record { before = record { before = j; slot-number-arg = w .3 }; s = w .4 }; slot-number-arg2 = w .5 };
+          slot-number = w .6;
+        };
+        is-worked = w .7;
+      };
+      if5 = w .8;
     }))))
     (λ w. rw (w .1, w .2, w .3, w .4, w .5)
-    (closed-none (caseIn l) (l .loop .lines) _ (e .result) (e .last .1 .0) (l .loop .run) (e .ensures .0) (e .ensures .1) _ _ _ _ _
+    (closed-none (caseIn l) (l .loop .lines) _ (e .result) (e .last .1 .0) (l .loop .s .run) (e .ensures .0) (e .ensures .1) _ _ _ _ _
     (h .has-slot .ensures .0 _) (sym (h .has-slot .ensures .1) ∙ w .0 .left))))
     (c .if3 .came)
 
@@ -247,7 +268,7 @@ newline-here c =
 add-i : tie.Need-add-i Inv-loop μ-loop
 add-i c =
     let h = c .before .before .before in
-    let start = loopOf h .before .before .before .before .before .before .before in
+    let start = loopOf h .before .before .before .before .before in
     omega (arith, newline-here (h .before .before .before .before) .0, start .good .1 .1 .1 .1 .1 .1 .1 .0)
 
 loop-less : tie.Need-loop-less Inv-loop μ-loop
@@ -271,9 +292,9 @@ log-of-requires-2 c κs = search needs
 
 returns-2 : tie.Need-returns-2 Inv-loop μ-loop
 returns-2 c = λ f w.
-    let l = c .before .before .before in
+    let l = c .before .before .before .before .before in
     rw (c .log-of2 .ensures) (feeding-over (caseIn l) (pieceIn l) _ _ (l .loop .i)
-    (sym (c .before .before .goes-on .ensures) ∙ c .before .if1 .left)
+    (sym (c .before .before .before .before .goes-on .ensures) ∙ c .before .before .before .if1 .left)
     (l .loop .inv) f w)
 
 pub feed-spec : {M : Type 1} → statement M

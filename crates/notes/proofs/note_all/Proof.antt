@@ -40,6 +40,15 @@ mul-p c = search needs
 element-copy-out-p : tie.Need-element-copy-out-p Inv-loop μ-loop
 element-copy-out-p c = search needs
 
+cast-note-task : tie.Need-cast-note-task Inv-loop μ-loop
+cast-note-task c =
+    let is-event = c .before .before .before .is-event in
+    let looped = c .before .before .before .before .before .before .before .before .loop in
+    let loop-test = c .before .before .before .before .before .before .before .loop-test in
+    let start = c .before .before .before .before .before .before .before .before .before .before in
+    let e = sym (is-event .ensures) ∙ c .before .before .if1 .taken in
+    omega (arith, start .pre .0 (looped .i) (loop-test .taken) e, start .good .0)
+
 note-task-requires : tie.Need-note-task-requires Inv-loop μ-loop
 note-task-requires c κs =
     let is-event = c .before .before .before .is-event in
@@ -88,6 +97,7 @@ note-all-spec =
     is-event-requires
     mul-p
     element-copy-out-p
+    cast-note-task
     note-task-requires
     add-i
     loop-less

@@ -12,11 +12,11 @@ use Rattle.ownlog.proofs.put_slots.Statement.{statement}
 use Rattle.ownlog.proofs.put_slots.Tie as tie
 
 abbrev Inv-loop : tie.InvT-loop
-Inv-loop procs policy table counts end trace out₀ written run₀ next₀ clock₀ at₀ out run next clock at =
+Inv-loop procs policy table counts end trace out₀ written run₀ next₀ clock₀ bound₀ at₀ out run next clock bound at =
     Writing (caseOf procs policy table end trace) clock₀ out₀ run next clock at out
 
 abbrev μ-loop : tie.MeasureT-loop
-μ-loop procs policy table counts end trace out₀ written run₀ next₀ clock₀ at₀ out run next clock at =
+μ-loop procs policy table counts end trace out₀ written run₀ next₀ clock₀ bound₀ at₀ out run next clock bound at =
     end - clock
 
 loop-holds : tie.Need-loop-holds Inv-loop μ-loop
@@ -25,9 +25,12 @@ loop-holds c = writing-none _ _ _ _ _ (c .before .before .before .before .pre .1
 fits-another-requires : tie.Need-fits-another-requires Inv-loop μ-loop
 fits-another-requires c κs = c .loop .inv .fits
 
+abbrev startOf : tie.Then1 Inv-loop μ-loop → tie.Start Inv-loop μ-loop
+startOf c = c .before .before .before .before .before .before .before
+
 -- there is a slot at the clock, and its line has room
 another : (c : tie.Then1 Inv-loop μ-loop)
-    → (c .before .before .loop .clock < c .before .before .before .before .before .before .before .args .end)
+    → (c .before .before .loop .clock < startOf c .args .end)
     × (c .before .before .loop .at + lineRoom ≤ length (c .before .before .loop .out))
 another c = c .before .fits-another .ensures .is-so (c .if1 .taken)
 
@@ -38,16 +41,18 @@ take-releases-requires c κs =
 
 step-requires : tie.Need-step-requires Inv-loop μ-loop
 step-requires c κs =
-    let q = c .before .before .before .before .before .before .before .before .before .before .before .before .before .before .before
-    .before .pre in
-    needed _ (legal _ (q .0)) _ (another (c .before .before .before .before .before .before .before .before .before) .0) _
-    (c .before .before .before .before .before .before .before .take-releases .ensures .2) _ (q .1 .0)
+    let t = c .before .before .before .before .before .before .before .before .before .before in
+    let q = startOf t .pre in
+    let released = c .before .before .before .before .before .before .before .before .take-releases .ensures in
+    needed _ (legal _ (q .0)) _ (another t .0) _ (released .2) _ (q .1 .0)
+
+-- behind the slot: the turn that it is of
+abbrev turnOf : tie.After-step Inv-loop μ-loop → tie.Then1 Inv-loop μ-loop
+turnOf c = c .before .before .before .before .before .before .before .before .before .before .before
 
 -- what is written ends within the bytes
-behind : (c : tie.After-step Inv-loop μ-loop)
-    → c .before .before .before .before .before .before .before .before .before .before .before .before .loop .at
-    ≤ length (c .before .before .before .before .before .before .before .before .before .before .before .before .loop .out)
-behind c = c .before .before .before .before .before .before .before .before .before .before .before .before .loop .inv .fits
+behind : (c : tie.After-step Inv-loop μ-loop) → let l = turnOf c .before .before .loop in l .at ≤ length (l .out)
+behind c = turnOf c .before .before .loop .inv .fits
 
 sub-put-slot-line : tie.Need-sub-put-slot-line Inv-loop μ-loop
 sub-put-slot-line c = omega (arith, behind c)
@@ -60,55 +65,36 @@ part-put-slot-line-end c = omega (arith, behind c)
 
 put-slot-line-requires : tie.Need-put-slot-line-requires Inv-loop μ-loop
 put-slot-line-requires c κs =
-    let l = c .before .before .before .before .before .before .before .before .before .before .before .before .before .before .loop in
-    omega (
-      arith,
-      another (c .before .before .before .before .before .before .before .before .before .before .before .before) .1,
-      part-length (l .at) (l .out),
-    )
+    let t = turnOf (c .before .before) in
+    let l = t .before .before .loop in
+    omega (arith, another t .1, part-length (l .at) (l .out))
 
 add-at : tie.Need-add-at Inv-loop μ-loop
 add-at c =
-    let start = c .before .before .before .before .before .before .before .before .before .before .before .before .before .before .before
-    .before .before .before .before .before .before .before in
-    let laid = c .before .before .before .before .before .before .before .before .before .before .before .before .before .before .before
-    .before .before .loop .inv .laid in
+    let t = turnOf (c .before .before .before .before .before) in
     omega (
       arith,
-      another (c .before .before .before .before .before .before .before .before .before .before .before .before .before .before .before)
-          .1,
+      another t .1,
       c .before .before .put-slot-line .ensures .short,
-      laid-length laid,
-      start .good .1 .1 .1 .1 .1 .1 .1 .0,
+      laid-length (t .before .before .loop .inv .laid),
+      startOf t .good .1 .1 .1 .1 .1 .1 .1 .0,
     )
 
 add-clock : tie.Need-add-clock Inv-loop μ-loop
-add-clock c = omega (
-  arith,
-  another
-      (c .before .before .before .before .before .before .before .before .before .before .before .before .before .before .before) .0,
-  legal
-      _ (c .before .before .before .before .before .before .before .before .before .before .before .before .before .before .before .before
-      .before .before .before .before .before .before .pre .0) .end-small,
-)
+add-clock c =
+    let t = turnOf (c .before .before .before .before .before) in
+    omega (arith, another t .0, legal _ (startOf t .pre .0) .end-small)
 
 loop-less : tie.Need-loop-less Inv-loop μ-loop
-loop-less c = omega (
-  arith,
-  another
-      (c .before .before .before .before .before .before .before .before .before .before .before .before .before .before .before) .0,
-)
+loop-less c = omega (arith, another (turnOf (c .before .before .before .before .before)) .0)
 
 loop-again : tie.Need-loop-again Inv-loop μ-loop
 loop-again c =
-    let v = c .before .before .before .before .before .before .before .before .before .before .before .before .before .before .before
-    .before .before .loop .inv in
-    let more = another (c .before .before .before .before .before .before .before .before .before .before .before .before .before .before
-    .before) in
-    let released = c .before .before .before .before .before .before .before .before .before .before .before .before .before
-    .take-releases .ensures in
-    writing-more _ _ _ _ _ _ _ _ v (more .0) (more .1) _ (released .2) _ _ _ _ _ _ _
-    (c .before .before .before .before .before .step .ensures) _ (released .1) _ _
+    let s = c .before .before .before .before .before in
+    let t = turnOf s in
+    let v = t .before .before .loop .inv in
+    let released = s .before .before .before .before .before .before .before .before .before .take-releases .ensures in
+    writing-more _ _ _ _ _ _ _ _ v (another t .0) (another t .1) _ (released .2) _ _ _ _ _ _ _ (s .step .ensures) _ (released .1) _ _
     (c .before .before .put-slot-line .ensures)
 
 same-length : tie.Need-same-length Inv-loop μ-loop

@@ -10,7 +10,7 @@ free-counts-requires c κs =
     (accepted-table _ ok, accepted-procs _ ok)
 
 follow-file-requires : tie.Need-follow-file-requires
-follow-file-requires c κs = (c .before .before .before .before .pre, c .before .free-counts .ensures)
+follow-file-requires c κs = (c .before .before .before .before .before .pre, c .before .before .free-counts .ensures)
 
 slice-aggregate-fail : tie.Need-slice-aggregate-fail
 slice-aggregate-fail c = search needs

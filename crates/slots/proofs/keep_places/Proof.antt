@@ -22,7 +22,7 @@ named c =
     (omega (arith, w .0, c .name-of .ensures), omega (arith, w .1, c .name-of .ensures))
 
 loop-holds : tie.Need-loop-holds Inv-loop μ-loop
-loop-holds c = record { within = c .before .pre .1 .0; at-place = c .before .pre .1 .1 .1 }
+loop-holds c = record { within = c .before .pre .1 .0; at-place = c .before .pre .1 .1 .1 .1 }
 
 name-of-requires : tie.Need-name-of-requires Inv-loop μ-loop
 name-of-requires c κs = omega (arith, c .loop-test .taken, c .before .before .before .pre .1 .1 .0)
@@ -32,6 +32,11 @@ cast-i c = search needs
 
 sub-i : tie.Need-sub-i Inv-loop μ-loop
 sub-i c = omega (arith, named c)
+
+cast-place : tie.Need-cast-place Inv-loop μ-loop
+cast-place c =
+    let q = c .before .before .before .before .pre in
+    omega (arith, c .before .loop-test .taken, q .1 .0, q .1 .1 .0, q .1 .1 .1 .0)
 
 mul-place : tie.Need-mul-place Inv-loop μ-loop
 mul-place c = omega (arith, named c)
@@ -64,6 +69,7 @@ keep-places-spec =
     name-of-requires
     cast-i
     sub-i
+    cast-place
     mul-place
     element-write-place
     add-k

@@ -9,7 +9,7 @@ keep-places-requires : tie.Need-keep-places-requires
 keep-places-requires c κs =
     let q = c .before .before .before .before .pre in
     let a = c .before .take-releases .ensures in
-    (q .0, (a .0, (a .1 .within, q .1 .1)))
+    (q .0, (a .0, (a .1 .within, (q .1 .1 .0, q .1 .1 .1))))
 
 returns : tie.Need-returns
 returns c =
