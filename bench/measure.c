@@ -206,14 +206,23 @@ static void measure_stack(void)
     uint32_t place;
 
     paint();
+    thrumcomb_counts(procs, table, table_len, room_t, 6000, results, &place);
+    printf("stack: counts %lu bytes", (unsigned long)used());
+    paint();
     thrumcomb_replay(procs, policy, table, table_len, end, trace, trace_len, room_t, 6000, results, &place);
-    printf("stack: replay %lu bytes", (unsigned long)used());
+    printf(", replay %lu bytes", (unsigned long)used());
+    paint();
+    thrumcomb_running_set(procs, policy, table, table_len, end, trace, trace_len, end - 1, results, &place);
+    printf(", running set %lu bytes", (unsigned long)used());
+    paint();
+    thrumcomb_check_log(procs, policy, table, table_len, end, trace, trace_len, slots, slots_len, &place);
+    printf(", log %lu bytes", (unsigned long)used());
     paint();
     thrumcomb_read(text, text_len, tasks, 96, releases, 4000, results, &place);
     printf(", reader %lu bytes", (unsigned long)used());
     paint();
-    thrumcomb_check_log(procs, policy, table, table_len, end, trace, trace_len, slots, slots_len, &place);
-    printf(", log %lu bytes\n", (unsigned long)used());
+    thrumcomb_write(procs, policy, table, table_len, end, trace, trace_len, out_t, sizeof out_t, results, &place);
+    printf(", writer %lu bytes\n", (unsigned long)used());
 }
 
 int main(void)

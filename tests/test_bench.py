@@ -1,8 +1,10 @@
-"""The times of the gate by crate are those that `rt` printed, and what bench/run measures is accepted where it is meant to be."""
+"""The times of the gate by crate are those that `rt` printed, what bench/run measures is accepted where it is meant to be, and the calls
+keep to the stack that a rig controller has for them."""
 
 import importlib.machinery
 import importlib.util
 import os
+import re
 import sys
 import tempfile
 import unittest
@@ -10,7 +12,10 @@ import unittest
 ROOT = os.path.dirname(os.path.dirname(os.path.abspath(__file__)))
 sys.path.insert(0, os.path.join(ROOT, "bench"))
 
+import cases
+import frames
 import gate
+import kit
 import replay
 
 # Lines as `rt` prints them, one of each form, among others that have no time.
@@ -90,6 +95,52 @@ class Measured(unittest.TestCase):
         text = bench_run().long_text()
         answer, _ = replay.read_for_program(text)
         self.assertEqual((len(text), answer.number, answer.values), (60_000, 12, [0]))
+
+
+# What request P5 asks of a rig controller: at most so many bytes of stack.
+MOST = {"replay": 2200, "running set": 2200, "log": 2600}
+
+
+class Stack(unittest.TestCase):
+
+    def test_a_frame(self):
+        pushes = b"\x55\x41\x57\x41\x56\x53"
+        self.assertEqual(frames.frame(b"\xc3"), 8)
+        self.assertEqual(frames.frame(pushes + b"\x48\x83\xec\x28\xc3"), 8 + 4 * 8 + 40)
+        self.assertEqual(frames.frame(pushes + b"\x48\x81\xec\xd8\x06\0\0\x48\x83\xec\x08"), 8 + 4 * 8 + 1752)
+
+    def test_a_frame_over_a_page(self):
+        page = b"\x48\x81\xec\0\x10\0\0" + frames.TOUCH
+        self.assertEqual(frames.frame(b"\x55" + page + page + b"\x48\x81\xec\xa8\0\0\0\x90"), 8 + 8 + 2 * 4096 + 168)
+
+    def test_the_deepest_path(self):
+        found = {1: frames.Function("call", 100, {2, 3}, True), 2: frames.Function("wide", 50, set(), False),
+                 3: frames.Function("thin", 10, {4}, False), 4: frames.Function("end", 45, set(), False)}
+        self.assertEqual([f.name for f in frames.deepest(found, 1)], ["call", "thin", "end"])
+
+    def test_the_frames_of_the_calls(self):
+        paths = frames.paths(kit.archive())
+        self.assertEqual(sorted(paths), ["thrumcomb_" + call for call in
+                                         ("check_log", "counts", "read", "replay", "running_set", "write")])
+        self.assertEqual([f.name for f in paths["thrumcomb_replay"]], ["thrumcomb_replay", "slots::walk"])
+        for call, most in MOST.items():
+            name = "thrumcomb_" + {"log": "check_log"}.get(call, call).replace(" ", "_")
+            self.assertLess(sum(f.frame for f in paths[name]), most, name)
+
+    def test_the_stack_that_the_calls_use(self):
+        run = bench_run()
+        case = run.CASES[2][1]
+        with tempfile.TemporaryDirectory() as folder:
+            sources = [os.path.join(ROOT, "bench", name) for name in ("measure.c", "replay.c", "text.c", "log.c")]
+            program = kit.build(sources, folder, "measure", "-O3", "-DREPLAY_ONLY", "-I", os.path.join(ROOT, "bench"))
+            printed = run.measured(program, case, cases.text_of(case), 1)
+        used = {call: int(size) for call, size in re.findall(r"([a-z ]+) (\d+) bytes", printed)}
+        used = {call.strip(): size for call, size in used.items()}
+        self.assertEqual(sorted(used), ["counts", "log", "reader", "replay", "running set", "writer"])
+        for call, most in MOST.items():
+            self.assertLessEqual(used[call], most, call)
+            # One run and a copy of it, with what goes with them: a smaller number would be a call that was refused.
+            self.assertGreater(used[call], 1280, call)
 
 
 if __name__ == "__main__":

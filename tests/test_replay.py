@@ -1378,13 +1378,75 @@ class NormalAgain(replay.LogRun):
                 job.demoted, job.free = False, 0
 
 
-ERRORS = [OpenCountedAsMet, DeadlineTestedBeforeItsSlot, DeadlineTestedBeforeItsSlotInStepOne, FreeCountLoweredAtOneMore,
+# The choice of request P5, by scanning, and what can go wrong with it.
+
+
+class Scanned(replay.Run):
+    """Where jobs wait, those run whose key is below a bound, which goes on from slot to slot and is moved a key at a time."""
+
+    bound = 0
+
+    def key(self, job):
+        return (job.demoted * 2**32 + job.deadline) * 32 + job.task - 1
+
+    def keys(self):
+        return [self.key(job) for job in self.present]
+
+    def raised(self, keys):
+        return min((key for key in keys if key >= self.bound), default=self.bound) + 1
+
+    def move_bound(self, keys):
+        below = sum(key < self.bound for key in keys)
+        for _ in range(self.procs - below):
+            self.bound = self.raised(keys)
+        for _ in range(below - self.procs):
+            self.bound = max((key for key in keys if key < self.bound), default=0)
+
+    def run_first(self, n, t):
+        running = self.present
+        if n > self.procs:
+            self.move_bound(self.keys())
+            running = [job for job in self.present if self.key(job) < self.bound]
+        self.work(running, t)
+        return sorted(job.task for job in running)
+
+
+class ChosenTwice(Scanned):
+    """The scan finds the job that it found before, and counts it once more."""
+
+    def raised(self, keys):
+        return min((key for key in keys if key >= self.bound), default=self.bound)
+
+
+class TiesForgotten(Scanned):
+    def key(self, job):
+        return (job.demoted * 2**32 + job.deadline) * 32
+
+
+class StopsOneShort(Scanned):
+    def move_bound(self, keys):
+        below = sum(key < self.bound for key in keys)
+        for _ in range(self.procs - 1 - below):
+            self.bound = self.raised(keys)
+        for _ in range(below - self.procs):
+            self.bound = max((key for key in keys if key < self.bound), default=0)
+
+
+class IdleTaken(Scanned):
+    """A task without a job has a key too, below all others, and takes a processor."""
+
+    def keys(self):
+        idle = set(range(1, len(self.tasks) + 1)) - {job.task for job in self.present}
+        return super().keys() + [task - 1 for task in idle]
+
+
+ERRORS = [ChosenTwice, TiesForgotten, StopsOneShort, IdleTaken, OpenCountedAsMet, DeadlineTestedBeforeItsSlot, DeadlineTestedBeforeItsSlotInStepOne, FreeCountLoweredAtOneMore,
           CountedBeforeReleases, CountedBeforeReleasesThroughout, DemotedKeepsItsPlace, DemotedFirst, OwnAvailabilityLeftOut,
           DividedByM, DemotedOnlyWhereEqual, DemotedWhereStrictlyLarger, ComparedWithC, NormalAgain]
 
 
 class ErrorsThatLookRight(Checks):
-    """For each error of document 01 and of request P3, a small case that tells it, and more than ten random ones.
+    """For each error of document 01 and of requests P3 and P5, a small case that tells it, and more than ten random ones.
 
     Each test of a small case holds the right answer, worked out by hand, and
     the answer that the error gives.
@@ -1411,6 +1473,34 @@ class ErrorsThatLookRight(Checks):
         self.assertEqual(replay.counts(procs, table, [0] * len(right)).rooms[0],
                          right)
         self.assertEqual(error(*case).free_counts, wrong)
+
+    def test_the_scan_runs_what_the_queue_runs(self):
+        for case in cases.legal_cases("scans", 300):
+            scanned, queued = Scanned(*case), replay.Run(*case)
+            for t in range(case[3]):
+                self.assertEqual(scanned.play_slot(t), sorted(queued.play_slot(t)))
+
+    # m = 1, EDF, tasks (6,2,6) and (6,2,6) released at 0, end 6: task 1 has the processor first, by its number, and finishes at 2, task 2
+    # at 4.
+    TIED = (1, EDF, [6, 2, 6, 6, 2, 6], 6, [0, 1, 0, 2])
+    TIED_RECORDS = [1, 2, 0, 1, 4, 0]
+
+    def test_a_job_chosen_twice(self):
+        """The key of task 1 becomes the bound, has none below it, and is found again in the next slot: nobody ever runs."""
+        self.told(ChosenTwice, self.TIED, self.TIED_RECORDS, [2, 0, 0, 2, 0, 0])
+
+    def test_a_scan_that_forgets_ties(self):
+        """Both jobs have one key: below the bound are both, then none, then both: they run in slots 0 and 2."""
+        self.told(TiesForgotten, self.TIED, self.TIED_RECORDS, [1, 3, 0, 1, 3, 0])
+
+    def test_a_scan_that_stops_one_short(self):
+        """One processor less one is none."""
+        self.told(StopsOneShort, self.TIED, self.TIED_RECORDS, [2, 0, 0, 2, 0, 0])
+
+    def test_a_scan_that_takes_an_idle_task(self):
+        """A third task (6,2,6) comes at 5 and has run one unit at 6: open.  The error gives it the processor while it is idle."""
+        case = (1, EDF, [6, 2, 6, 6, 2, 6, 6, 2, 6], 6, [0, 1, 0, 2, 5, 3])
+        self.told(IdleTaken, case, [1, 2, 0, 1, 4, 0, 3, 0, 0], [2, 0, 0, 2, 0, 0, 3, 0, 0])
 
     def test_an_open_job_counted_as_met(self):
         """m = 1, EDF, task (2,2,2) released at 0, end 1.
