@@ -97,8 +97,9 @@ class Measured(unittest.TestCase):
         self.assertEqual((len(text), answer.number, answer.values), (60_000, 12, [0]))
 
 
-# What request P5 asks of a rig controller: at most so many bytes of stack.
-MOST = {"replay": 2200, "running set": 2200, "log": 2600}
+# At most so many bytes of stack: those of the first three are request P5's, and the header names all.
+MOST = {"replay": 2200, "running set": 2200, "log": 2600, "counts": 100, "writer": 400, "reader": 17000}
+RUNS = ("replay", "running set", "log")
 
 
 class Stack(unittest.TestCase):
@@ -124,7 +125,7 @@ class Stack(unittest.TestCase):
                                          ("check_log", "counts", "read", "replay", "running_set", "write")])
         self.assertEqual([f.name for f in paths["thrumcomb_replay"]], ["thrumcomb_replay", "slots::walk"])
         for call, most in MOST.items():
-            name = "thrumcomb_" + {"log": "check_log"}.get(call, call).replace(" ", "_")
+            name = "thrumcomb_" + {"log": "check_log", "writer": "write", "reader": "read"}.get(call, call).replace(" ", "_")
             self.assertLess(sum(f.frame for f in paths[name]), most, name)
 
     def test_the_stack_that_the_calls_use(self):
@@ -139,8 +140,16 @@ class Stack(unittest.TestCase):
         self.assertEqual(sorted(used), ["counts", "log", "reader", "replay", "running set", "writer"])
         for call, most in MOST.items():
             self.assertLessEqual(used[call], most, call)
+        for call in RUNS:
             # One run and a copy of it, with what goes with them: a smaller number would be a call that was refused.
             self.assertGreater(used[call], 1280, call)
+
+    def test_the_header_names_the_same(self):
+        with open(os.path.join(kit.INCLUDE, "thrumcomb.h"), encoding="utf-8") as header:
+            text = " ".join(header.read().replace("*", " ").split())
+        said = re.search(r"Stack, in bytes at most: (.*?), which may", text).group(1).replace(" and the ", ", 2,200 for the ")
+        self.assertEqual({call.replace("log check", "log"): int(most.replace(",", ""))
+                          for most, call in re.findall(r"([\d,]+) for the ([a-z ]+)", said)}, MOST)
 
 
 if __name__ == "__main__":

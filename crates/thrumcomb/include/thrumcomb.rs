@@ -1,5 +1,6 @@
 //! Thrumcomb for Rust: the six public calls of libthrumcomb.a (made by `rt staticlib thrumcomb`, for x86-64 Linux), declared, and for
-//! each a safe function. thrumcomb.h beside this file says what is lent, what is returned, and what each refusal means.
+//! each a safe function. thrumcomb.h beside this file says what is lent, what is returned, what each refusal means, and how much stack a
+//! call takes.
 
 /// A refusal: its number, 1 to 19, and its place. Every lent number and byte keeps the content it had.
 #[derive(Clone, Copy, Debug, PartialEq, Eq)]
