@@ -1,4 +1,6 @@
 // What is printed for what is asked of a text: the reader's refusal alone, or what the case says.
+#![tactic(auto)]
+
 ghost use Rattle.std.specs.Prelude.{◌≡◌, ◌≤◌, length};
 ghost use Rattle.rules.specs.Case.{case_of};
 ghost use Rattle.rules.specs.Refusals.{Accepted};

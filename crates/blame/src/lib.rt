@@ -1,4 +1,6 @@
 // The words for a log's slot: which part of the rule it breaks, and by which tasks. A task is told by its number, 0 where there is none.
+#![tactic(auto)]
+
 ghost use Rattle.std.specs.Prelude.{◌≡◌, ◌&&◌, not, ◌+◌, ◌≤◌, ◌<◌, min, length};
 ghost use Rattle.rules.specs.Words.{bit};
 ghost use Rattle.rules.specs.Limits.{max_tasks};

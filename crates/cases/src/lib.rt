@@ -1,4 +1,6 @@
 // A table and a trace as lent numbers, read by the names that the rules give their parts (rules, Case).
+#![tactic(auto)]
+
 ghost use Rattle.std.specs.Prelude.{◌≡◌, ◌<◌};
 ghost use Rattle.rules.specs.Case.{task_count, period, execution, deadline, release_count, time_of, name_of};
 

@@ -1,5 +1,7 @@
 // The checks on numbers: each call's tests in their order, a row of them at a time. One test alone is in the crate faults, and those that
 // go through a table or a trace are in the crate lowest.
+#![tactic(auto)]
+
 ghost use Rattle.std.specs.Prelude.{◌≡◌};
 ghost use Rattle.rules.specs.Case.{case_of};
 ghost use Rattle.rules.specs.Refusals.{first, case_fault, counts_fault, replay_fault, running_fault};

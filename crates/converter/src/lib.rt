@@ -1,4 +1,6 @@
 // The converter: an old text, in which no policy line meant EDF, as a text that says so; or a refusal that leaves every byte as it was.
+#![tactic(auto)]
+
 ghost use Rattle.std.specs.Prelude.{◌≡◌, [], ◌∷◌, ◌++◌, ◌+◌, ◌≤◌, eqb, leb, length, take, drop};
 ghost use Rattle.rules.specs.Words.{pick};
 ghost use Rattle.rules.specs.Limits.{max_text};

@@ -1,4 +1,6 @@
 // The contention-free counts of a task table.
+#![tactic(auto)]
+
 ghost use Rattle.std.specs.Prelude.{◌≡◌, ℕ, ◌≤◌, ◌<◌, min, List, ◌++◌, length, get_or, drop};
 ghost use Rattle.rules.specs.Limits.{max_period};
 ghost use Rattle.rules.specs.Case.{task_count};

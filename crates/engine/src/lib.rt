@@ -1,4 +1,6 @@
 // The replay of a case, into lent room; and the running set of one slot.
+#![tactic(auto)]
+
 ghost use Rattle.std.specs.Prelude.{◌≡◌, false, ◌*◌, ◌≤◌, length, get_or};
 ghost use Rattle.rules.specs.Limits.{record_width};
 ghost use Rattle.rules.specs.Case.{case_of, release_count};

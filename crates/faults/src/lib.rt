@@ -1,4 +1,6 @@
 // The refusals on numbers one by one: each test as a function, and the first fault of several.
+#![tactic(auto)]
+
 ghost use Rattle.std.specs.Prelude.{◌≡◌, Bool, true, false, ◌&&◌, ◌||◌, List, [], ◌∷◌, ℕ, suc, ◌+◌, ◌*◌, ◌-◌, ◌≤◌, ◌<◌, eqb, leb, ltb, length, get_or};
 ghost use Rattle.rules.specs.Limits.{max_tasks, max_period, max_end};
 ghost use Rattle.rules.specs.Case.{task_count, release_count};

@@ -1,5 +1,7 @@
 // The check of a vendor's slot log: a state by value that takes the log in pieces of any length, and the call that takes it whole. The
 // state follows the log, not our own replay: each slot works the set that its line names.
+#![tactic(auto)]
+
 ghost use Rattle.std.specs.Prelude.{◌≡◌, Bool, ◌&&◌, ◌||◌, not, List, [], ℕ, ◌+◌, ◌≤◌, ◌<◌, ◌^◌, eqb, ltb};
 ghost use Rattle.rules.specs.Words.{pick};
 ghost use Rattle.rules.specs.Case.{Case, case_of};
@@ -22,7 +24,7 @@ use rules::{Logged, MAX_TASKS, Run};
 // first release that is not taken, how many jobs the run has and whether steps 1 and 3 of the next slot surely change none of them, and the
 // number of the first fault, 0 where there is none. Once at fault it stays as it is: of a slot that breaks the rule the run is that after
 // step 3, for the words that say why.
-#[derive(Drop)]
+#[derive(Clone, Copy)]
 pub struct Log {
     pub run: Run,
     pub named: [bool; MAX_TASKS],

@@ -1,4 +1,6 @@
 // A line of a slot log, heard byte by byte in a state that does not grow with it; the tasks that it names stand in a lent set.
+#![tactic(auto)]
+
 ghost use Rattle.std.specs.Prelude.{◌≡◌, Bool, List, ◌+◌, ◌*◌, ◌-◌, ◌≤◌, ◌<◌, ◌^◌, eqb, length, get_or};
 ghost use Rattle.rules.specs.Words.{pick};
 ghost use Rattle.rules.specs.Limits.{max_tasks};
@@ -17,7 +19,7 @@ use rules::MAX_TASKS;
 // what they are worth; of the tasks the time before them, the least number that would rise, and whether all before rise and are tasks.
 // Behind a return the time is that of the line, and all its tasks are those before. A struct and not an enum: the fields stay in registers
 // from byte to byte.
-#[derive(Drop)]
+#[derive(Clone, Copy)]
 pub struct Scan {
     pub phase: u32,
     pub digits: u32,
@@ -41,7 +43,7 @@ const WRONG: u32 = 3;
 const RETURNED: u32 = 4;
 
 // What a line says at its end, beside the set of the tasks that it names.
-#[derive(Drop)]
+#[derive(Clone, Copy)]
 pub enum Ended {
     Bad,
     Slot { time: u32, rises: bool, names: bool },

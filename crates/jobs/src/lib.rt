@@ -1,4 +1,6 @@
 // What a job has, and what each step of a slot makes of one job and of one task. Here alone a job is opened by its kind.
+#![tactic(auto)]
+
 ghost use Rattle.std.specs.Prelude.{◌≡◌, true, ◌&&◌, ◌||◌, ◌+◌, ◌<◌, leb};
 ghost use Rattle.rules.specs.Words.{bit};
 ghost use Rattle.rules.specs.Limits.{max_tasks};

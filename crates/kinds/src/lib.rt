@@ -1,4 +1,6 @@
 // What one line of a case text says: its word gives its kind, its kind what its fields are, and its kind where it may stand.
+#![tactic(auto)]
+
 ghost use Rattle.std.specs.Prelude.{◌≡◌, true};
 ghost use Rattle.rules.specs.Reader.{one_number, two_numbers, three_numbers, policy_in, word_kind, fields_say, may_follow};
 ghost use Rattle.rules.specs.declared.Line.TheVariants.{Procs, Row, End, Release};
@@ -9,7 +11,7 @@ use scan::{after_field, field, number};
 use words::same_bytes;
 
 // What a line says, with the kind that its word opens.
-#[derive(Drop)]
+#[derive(Clone, Copy)]
 pub struct Said {
     pub kind: u32,
     pub line: Line,

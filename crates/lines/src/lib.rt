@@ -1,5 +1,7 @@
 // The lines of a case text, one by one: those of the head, through `end`, and the release lines after it. The smallest line at fault, or
 // the case that the lines say, kept as far as it matters.
+#![tactic(auto)]
+
 ghost use Rattle.std.specs.Prelude.{◌≡◌, ◌+◌, ◌≤◌, ◌<◌, length};
 ghost use Rattle.rules.specs.Limits.{max_text, task_width, release_width};
 ghost use Rattle.rules.specs.Reader.{kind_of, case_order};
@@ -16,7 +18,7 @@ pub const TABLE_ROOM: usize = (MAX_TASKS + 1) * TASK_WIDTH;
 pub const TRACE_ROOM: usize = (MAX_RELEASES + 1) * RELEASE_WIDTH;
 
 // What the lines read so far say, their tasks and releases apart.
-#[derive(Drop)]
+#[derive(Clone, Copy)]
 pub struct Head {
     pub procs: u32,
     pub policy: u32,
@@ -24,7 +26,7 @@ pub struct Head {
 }
 
 // A line: the kind that its word opens, what it says, and where the next one starts.
-#[derive(Drop)]
+#[derive(Clone, Copy)]
 pub struct Step {
     pub kind: u32,
     pub said: Line,
@@ -32,7 +34,7 @@ pub struct Step {
 }
 
 // A release line: what is at fault with it, how many release numbers are kept after it, and where the next line starts.
-#[derive(Drop)]
+#[derive(Clone, Copy)]
 pub struct ReleaseStep {
     pub fault: Fault,
     pub releases: usize,
@@ -40,7 +42,7 @@ pub struct ReleaseStep {
 }
 
 // The release lines: what is at fault with them, and how many release numbers were kept.
-#[derive(Drop)]
+#[derive(Clone, Copy)]
 pub struct ReleasesRead {
     pub fault: Fault,
     pub releases: usize,
@@ -48,7 +50,7 @@ pub struct ReleasesRead {
 
 // The lines read so far, at most through `end`: what is at fault with them, their head, how many task numbers were kept, the kind of the
 // last one, and the number and the start of the next.
-#[derive(Drop)]
+#[derive(Clone, Copy)]
 pub struct HeadRead {
     pub fault: Fault,
     pub head: Head,
@@ -59,7 +61,7 @@ pub struct HeadRead {
 }
 
 // What the lines of a text come to: what is at fault, their head, and how many task and release numbers were kept.
-#[derive(Drop)]
+#[derive(Clone, Copy)]
 pub struct Gathered {
     pub fault: Fault,
     pub head: Head,

@@ -1,4 +1,6 @@
 // The lowest task and the lowest release that is at fault: one loop each. One test alone is in the crate faults.
+#![tactic(auto)]
+
 ghost use Rattle.std.specs.Prelude.{◌≡◌, ◌≤◌, ◌<◌};
 ghost use Rattle.rules.specs.Limits.{max_tasks, max_end, max_releases};
 ghost use Rattle.rules.specs.Case.{task_count, release_count};

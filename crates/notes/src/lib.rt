@@ -1,5 +1,7 @@
 // The records of a replay in the lent room: every record open at first, then what happens to a job in a slot, and the totals. Nothing here
 // knows how a slot is played: it takes the sets of a slot and the place of each task's last release.
+#![tactic(auto)]
+
 ghost use Rattle.std.specs.Prelude.{◌≡◌, true, false, ◌++◌, suc, ◌+◌, ◌*◌, ◌≤◌, ◌<◌, eqb, length, get_or, drop};
 ghost use Rattle.rules.specs.Words.{pick, tab, count_in};
 ghost use Rattle.rules.specs.Limits.{max_tasks, max_end, max_releases, record_width};

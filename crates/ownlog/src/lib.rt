@@ -1,5 +1,7 @@
 // Our own slot log (request P2), a piece at a time: the lines of as many slots as a lent part has room for, and the replay as it then
 // stands, from which the next piece goes on. No memory grows with the number of slots.
+#![tactic(auto)]
+
 ghost use Rattle.std.specs.Prelude.{◌≡◌, ◌≤◌, length};
 ghost use Rattle.rules.specs.Case.{Case, case_of};
 ghost use Rattle.rules.specs.Refusals.{Accepted};
@@ -12,7 +14,7 @@ use rules::{MAX_TASKS, Run};
 use sets::put_slot_line;
 
 // Our own replay as it stands at a time, before step 1: the run, and the place of the first release that is not before the time.
-#[derive(Drop)]
+#[derive(Clone, Copy)]
 pub struct Play {
     pub run: Run,
     pub next: usize,

@@ -1,4 +1,6 @@
 // The policies: their numbers, their words read and written, and what each does. No other crate tells one policy from another.
+#![tactic(auto)]
+
 ghost use Rattle.std.specs.Prelude.{◌≡◌, ◌∷◌, ◌+◌, ◌≤◌, leb, length};
 ghost use Rattle.rules.specs.Policies.{max_policy, policy_name, policy_of, demoting};
 ghost use Rattle.puts.specs.Laid.{Laid};

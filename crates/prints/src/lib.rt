@@ -1,4 +1,6 @@
 // The printed lines: each function writes one to the start of a lent part and returns its length.
+#![tactic(auto)]
+
 ghost use Rattle.std.specs.Prelude.{◌∷◌, ◌+◌, ◌≤◌, length};
 ghost use Rattle.rules.specs.Replay.{record_of};
 ghost use Rattle.rules.specs.Report.{space_byte, verdict_name, finish_field, demotion_field, job_line, refused_line};

@@ -1,4 +1,6 @@
 // Bytes, decimal numbers, words and lines, written into lent bytes from an index on. Each writer returns the index behind what it wrote.
+#![tactic(auto)]
+
 ghost use Rattle.std.specs.Prelude.{◌≡◌, ◌+◌, ◌*◌, ◌<◌, ◌≤◌, length};
 ghost use Rattle.rules.specs.Limits.{max_releases, release_width};
 ghost use Rattle.rules.specs.Text.{digits_of};

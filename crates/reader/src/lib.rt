@@ -1,4 +1,6 @@
 // The reader of the case text: the case of a text is read into rooms of its own, and put into the lent rooms once nothing is at fault.
+#![tactic(auto)]
+
 ghost use Rattle.std.specs.Prelude.{◌≡◌, ◌++◌, ◌≤◌, leb, length, drop};
 ghost use Rattle.rules.specs.Limits.{max_text};
 ghost use Rattle.rules.specs.Case.{case_of};

@@ -1,4 +1,6 @@
 // The words of a refusal, for a person to read: what is wrong and where.
+#![tactic(auto)]
+
 ghost use Rattle.std.specs.Prelude.{◌++◌, ◌+◌, ◌≤◌, length};
 ghost use Rattle.rules.specs.Text.{digits_of};
 ghost use Rattle.puts.specs.Laid.{Laid};

@@ -1,4 +1,6 @@
 // What is printed of an accepted case: each function makes a call on the case and writes the answer's lines to the start of lent bytes.
+#![tactic(auto)]
+
 ghost use Rattle.std.specs.Prelude.{◌≡◌, ℕ, ◌+◌, ◌*◌, ◌≤◌, ◌<◌, length};
 ghost use Rattle.rules.specs.Limits.{max_tasks};
 ghost use Rattle.rules.specs.Case.{case_of, release_count};

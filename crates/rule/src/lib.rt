@@ -1,6 +1,8 @@
 // Whether a set that a log names keeps the rule of a slot: min(m, N) of the jobs present run, and no job that waits comes before one that
 // runs, by kind and then deadline. One pass over the tasks tells it: of all turns it needs the least of a job that waits and the greatest
 // of one that runs.
+#![tactic(auto)]
+
 ghost use Rattle.std.specs.Prelude.{◌≡◌, List, ℕ, min, max};
 ghost use Rattle.rules.specs.Words.{holds_below};
 ghost use Rattle.rules.specs.Limits.{max_tasks};

@@ -1,4 +1,5 @@
 // The declared types of document 01 and the numbers that it fixes. There is no function here: what they mean is said in specs/.
+#![tactic(auto)]
 
 // The limits and widths of specs/Limits.antt, each under its name there. No other code writes these numbers.
 pub const MAX_PROCS: u32 = 32;
@@ -22,7 +23,7 @@ pub const RECORD_WIDTH: usize = 3;
 // The state of a task: no job, a normal one or a demoted one.
 // `left` is the remaining execution, `free` the remaining free count, `due` the absolute deadline. Neither of the first two is above
 // MAX_PERIOD, so 16 bits hold them: a run is copied where it is handed on, and each copy is on the stack.
-#[derive(Drop)]
+#[derive(Clone, Copy)]
 pub enum Job {
     Idle,
     Normal { left: u16, free: u16, due: u32 },
@@ -30,7 +31,7 @@ pub enum Job {
 }
 
 // A task in a run: its number, one more than the time of its last release (0 before the first), its state.
-#[derive(Drop)]
+#[derive(Clone, Copy)]
 pub struct Task {
     pub number: u32,
     pub last: u32,
@@ -38,41 +39,41 @@ pub struct Task {
 }
 
 // A run: one record for each of 32 tasks.
-#[derive(Drop)]
+#[derive(Clone, Copy)]
 pub struct Run {
     pub tasks: [Task; MAX_TASKS],
 }
 
 // What a check finds: a refusal's number and place; number 0 where nothing is at fault.
-#[derive(Drop)]
+#[derive(Clone, Copy)]
 pub struct Fault {
     pub number: u32,
     pub place: u32,
 }
 
 // What the counts call answers.
-#[derive(Drop)]
+#[derive(Clone, Copy)]
 pub enum Counted {
     Refused { number: u32, place: u32 },
     Counts { tasks: usize },
 }
 
 // What the replay answers.
-#[derive(Drop)]
+#[derive(Clone, Copy)]
 pub enum Replayed {
     Refused { number: u32, place: u32 },
     Judged { met: u32, missed: u32, open: u32 },
 }
 
 // What the running set call answers.
-#[derive(Drop)]
+#[derive(Clone, Copy)]
 pub enum Running {
     Refused { number: u32, place: u32 },
     Ran { set: u32 },
 }
 
 // What the reader answers.
-#[derive(Drop)]
+#[derive(Clone, Copy)]
 pub enum Taken {
     Refused {
         number: u32,
@@ -88,21 +89,21 @@ pub enum Taken {
 }
 
 // What the writer and the converter answer.
-#[derive(Drop)]
+#[derive(Clone, Copy)]
 pub enum Written {
     Refused { number: u32, place: u32 },
     Text { length: usize },
 }
 
 // What the log check answers.
-#[derive(Drop)]
+#[derive(Clone, Copy)]
 pub enum Logged {
     Refused { number: u32, place: u32 },
     Accepted,
 }
 
 // What the bytes of a field say where a number is wanted.
-#[derive(Drop)]
+#[derive(Clone, Copy)]
 pub enum Num {
     Value { value: u32 },
     Bad,
@@ -120,7 +121,7 @@ pub const END: u32 = 4;
 pub const RELEASE: u32 = 5;
 
 // What a line of a case text says.
-#[derive(Drop)]
+#[derive(Clone, Copy)]
 pub enum Line {
     Bad,
     Procs {

@@ -1,4 +1,6 @@
 // Lines, fields and numbers of a text: where they end, and what digits are worth.
+#![tactic(auto)]
+
 ghost use Rattle.std.specs.Prelude.{◌≡◌, ◌&&◌, ◌+◌, ◌-◌, ◌≤◌, eqb, ltb, length, get_or, drop};
 ghost use Rattle.rules.specs.Text.{newline_byte, return_byte, up_to, line_of, field_of, after_field, number_in};
 

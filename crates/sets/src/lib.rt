@@ -1,5 +1,7 @@
 // The lines that name the tasks of a set: of the set as a number, as the running call answers it, and of the set as an array, as a slot
 // leaves it. The numbers of the line are gathered first: the slot, and behind it the tasks.
+#![tactic(auto)]
+
 ghost use Rattle.std.specs.Prelude.{false, [], ◌∷◌, ◌+◌, ◌≤◌, length, get_or};
 ghost use Rattle.rules.specs.Words.{pick};
 ghost use Rattle.rules.specs.Limits.{max_tasks};

@@ -1,4 +1,6 @@
 // The slots of a case one after the other, with the records written as they stand (crate notes): one loop for every call that plays a case.
+#![tactic(auto)]
+
 ghost use Rattle.std.specs.Prelude.{◌≡◌, true, suc, ◌≤◌};
 ghost use Rattle.rules.specs.Limits.{max_releases};
 ghost use Rattle.rules.specs.Case.{case_of, release_count};

@@ -1,5 +1,7 @@
 // The public calls for C and Rust. Each returns 0 or a refusal's number; `results` is changed by a result alone and `place` by a
 // refusal alone. A slice is passed as a pointer and then a length. include/thrumcomb.h says the same to a C program.
+#![tactic(auto)]
+
 ghost use Rattle.std.specs.Prelude.{[]};
 ghost use Rattle.rules.specs.Case.{case_of};
 ghost use Rattle.rules.specs.Told.{seen, CountsTold, ReplayTold, RunningTold, ReadTold, WriteTold, ConvertTold, LogTold};

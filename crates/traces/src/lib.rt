@@ -1,4 +1,6 @@
 // A trace gone through by time: the releases of one time, from the place that a walk over the slots has come to, and whether there are any.
+#![tactic(auto)]
+
 ghost use Rattle.std.specs.Prelude.{◌≡◌, suc, ◌≤◌};
 ghost use Rattle.rules.specs.Case.{release_count};
 ghost use Rattle.bridge.specs.Turn.{Reached};

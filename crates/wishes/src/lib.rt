@@ -1,4 +1,6 @@
 // What the words of the command line ask, and what is at fault in that.
+#![tactic(auto)]
+
 ghost use Rattle.std.specs.Prelude.{◌≡◌};
 ghost use Rattle.wishes.specs.Asks.{asked_of, word_asks, slot_asks, log_asks, is_quiet, one_asks, two_ask, three_ask, words_ask, is_known};
 ghost use Rattle.wishes.specs.Asks.{asked_fault};
@@ -7,7 +9,7 @@ use rules::{Fault, Num};
 
 // What the words after the program's name ask for. `word` is the index of the log's name among the program's words: it may be any word
 // at all, and a longer one than is handed here.
-#[derive(Drop)]
+#[derive(Clone, Copy)]
 pub enum Wish {
     Unknown,
     Help,
@@ -21,7 +23,7 @@ pub enum Wish {
 }
 
 // What is asked, and whether the words of a refusal are left out.
-#[derive(Drop)]
+#[derive(Clone, Copy)]
 pub struct Asked {
     pub wish: Wish,
     pub quiet: bool,

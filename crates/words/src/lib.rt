@@ -1,4 +1,6 @@
 // Words: whether a piece of a text is a word that is looked for.
+#![tactic(auto)]
+
 ghost use Rattle.std.specs.Prelude.{◌≡◌};
 ghost use Rattle.rules.specs.Text.{same};
 

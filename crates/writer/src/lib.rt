@@ -1,4 +1,6 @@
 // The writer: the text of a case, or a refusal that leaves every byte as it was.
+#![tactic(auto)]
+
 ghost use Rattle.std.specs.Prelude.{◌≡◌, ◌+◌, ◌*◌, ◌≤◌, length};
 ghost use Rattle.rules.specs.Case.{case_of};
 ghost use Rattle.rules.specs.Calls.{WritePromise};

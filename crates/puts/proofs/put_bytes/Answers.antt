@@ -1,0 +1,17 @@
+-- `puts::put_bytes` meets its contract: the bytes passed are stored.
+use Prim.Native.Nat.{◌-◌, ◌≤◌}
+use mathlib.Core.Path.{◌≡◌, refl, ap, ◌∙◌}
+use native.Mathlib.Omega.{arith}
+use lib.ListN.{length, take, length-set}
+use lib.Seq.{sets, take_all}
+use Rattle.puts.proofs.Puts.{sets_suc}
+use Rattle.puts.proofs.put_bytes.Goals as goal
+
+pub loop-i-preserved : goal.loop-i-preserved
+loop-i-preserved c =
+    let l = c.loop-i in
+    let a = c.args in (
+      omega arith,
+      simp length-set l.invariant.1,
+      rw l.invariant.2 (sets_suc a.out.now a.s.now a.at l.i (omega arith)),
+    )
