@@ -22,7 +22,7 @@ use Rattle.answers.specs.Prints.{case_says, text_says}
 use Rattle.wishes.specs.Asks.{asked_fault}
 use Rattle.answers.specs.Prints.{wish_fault}
 use Rattle.wishes.specs.declared.Wish.{Wish}
-use Rattle.wishes.specs.declared.Wish.TheVariants.{Unknown, Help, Replay, Counts, Slot, Write, Slots, Log, Convert}
+use Rattle.wishes.specs.declared.Wish.TheVariants.{Unknown, Help, Replay, Counts, Slot, Write, Slots, Log}
 use Rattle.answers.proofs.Taken.{refused_fault, text_clear, case_read}
 
 module _ (w : Wish) (s ts rs : List ℕ) (x : Taken) (h : taken_as x ≡ read_answer s ts rs) where
@@ -58,7 +58,6 @@ asked_printed (Slot t) c h = slot_printed c (ltb t c.end) t h
 asked_printed Write c h = absurd (h refl)
 asked_printed Slots c h = absurd (h refl)
 asked_printed (Log k) c h = absurd (h refl)
-asked_printed Convert c h = absurd (h refl)
 
 pub fault_printed : (w : Wish) (s : List ℕ) → ((wish_fault w s).number ≡ 0 → ⊥)
     → text_says w s ≡ refused_line (wish_fault w s).number (wish_fault w s).place

@@ -11,10 +11,9 @@ use Rattle.rules.specs.declared.Fault.{Fault}
 use Rattle.report.specs.Cases.{counts_text, slot_text}
 use Rattle.wishes.specs.Asks.{asked_fault}
 use Rattle.wishes.specs.declared.Wish.{Wish}
-use Rattle.wishes.specs.declared.Wish.TheVariants.{Unknown, Help, Replay, Counts, Slot, Write, Slots, Log, Convert}
+use Rattle.wishes.specs.declared.Wish.TheVariants.{Unknown, Help, Replay, Counts, Slot, Write, Slots, Log}
 
--- of an accepted case; what `slots` and `log` print is written line by line and said elsewhere, and `convert` is asked of the bytes of a
--- text and not of its case (rules, Convert)
+-- of an accepted case; what `slots` and `log` print is written line by line and said elsewhere
 unfoldable pub case_says : Wish → Case → List ℕ
 case_says Unknown c = []
 case_says Help c = []
@@ -24,7 +23,6 @@ case_says (Slot s) c = slot_text c s
 case_says Write c = case_text c
 case_says Slots c = []
 case_says (Log k) c = []
-case_says Convert c = []
 
 -- of a text: the refusal's line alone, or what its case says
 unfoldable pub text_says : Wish → List ℕ → List ℕ

@@ -32,7 +32,7 @@ fn put_refusal(out: &mut [u8], taken: Taken) -> usize
 }
 
 // Writes what a wish asks of a case. A log, asked for or checked, may be of any length: the program writes it a piece at a time, and
-// nothing of it is put here. A conversion is asked of a text and not of its case.
+// nothing of it is put here.
 fn put_wish(
     out: &mut [u8],
     wish: Wish,
@@ -56,7 +56,6 @@ fn put_wish(
         Wish::Unknown => 0,
         Wish::Slots => 0,
         Wish::Log { word: _ } => 0,
-        Wish::Convert => 0,
     }
 }
 

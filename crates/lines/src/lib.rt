@@ -129,13 +129,13 @@ pub fn line_fault(before: u32, kind: u32, said: Line, n: u32) -> Fault
     faults::fault(3, n)
 }
 
-// The head before the first line; without a policy line the policy is EDF-CF.
+// The head before the first line; without a policy line the policy is EDF.
 pub fn no_head() -> Head
     ensures { result ≡ no_head }
 {
     Head {
         procs: 0,
-        policy: policies::EDF_CF,
+        policy: policies::EDF,
         end: 0,
     }
 }

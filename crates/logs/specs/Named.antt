@@ -99,20 +99,30 @@ first_name n ns e =
           (name_tasks ns) e,
     )
 
+-- the first of rising numbers, and those behind it
+rise_first : (k x : ℕ) (xs : List ℕ) → rise_past k (x ∷ xs) ≡ true → (k < x) × (rise_past x xs ≡ true)
+unfolding rise_past
+rise_first k x xs e = (ltb-true k x (and_left (ltb k x) (rise_past x xs) e), and_right (ltb k x) (rise_past x xs) e)
+
+-- nothing follows any number
+rise_none : (k : ℕ) → rise_past k [] ≡ true
+unfolding rise_past
+rise_none k = refl
+
 tasks_of-named : (n k : ℕ) (ns : List ℕ) → k + n ≡ max_tasks → rise_past k ns ≡ true → name_tasks ns ≡ true
     → tasks_from (set_named ns) k n ≡ ns
 unfolding tasks_from
 tasks_of-named zero k [] z e w = refl
 tasks_of-named zero k (x ∷ xs) z e w =
-    unfold rise_past in absurd (omega (arith, (first_name x xs w).1, ltb-true k x (and_left (ltb k x) _ e)))
-tasks_of-named (suc n) k [] z e w = none (tasks_of-named n (suc k) [] (omega arith) (unfold rise_past in refl) w)
+    absurd (omega (arith, (first_name x xs w).1, (rise_first k x xs e).0))
+tasks_of-named (suc n) k [] z e w = none (tasks_of-named n (suc k) [] (omega arith) (rise_none (suc k)) w)
   where
     none : tasks_from (set_named []) (suc k) n ≡ [] → pick (set_named [] k) (suc k ∷ tasks_from (set_named []) (suc k) n)
         (tasks_from (set_named []) (suc k) n) ≡ []
     none q = unfold set_named in q
 tasks_of-named (suc n) k (x ∷ xs) z e w =
-    go (ltb-true k x (and_left (ltb k x) (rise_past x xs) (unfold rise_past in e)))
-    (and_right (ltb k x) (rise_past x xs) (unfold rise_past in e))
+    go (rise_first k x xs e).0
+    (rise_first k x xs e).1
     (tasks_of-named n (suc k) xs (omega arith)) (tasks_of-named n (suc k) (x ∷ xs) (omega arith))
   where
     others : x ≡ suc k → (i : ℕ) → suc k ≤ i → i < suc k + n → set_named (x ∷ xs) i ≡ set_named xs i

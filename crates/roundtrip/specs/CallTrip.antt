@@ -11,15 +11,14 @@ use Rattle.rules.specs.Refusals.{room_fault, case_fault, Accepted}
 use Rattle.rules.specs.Answers.{result, taken_as, written_as}
 use Rattle.rules.specs.Calls.{ReadPromise, WritePromise}
 use Rattle.rules.specs.Text.{without_returns}
-use Rattle.rules.specs.Reader.{policy_when_absent, case_in, text_fault, read_fault, case_values, read_answer, read_tasks, read_releases}
+use Rattle.rules.specs.Reader.{case_in, text_fault, read_fault, case_values, read_answer, read_tasks, read_releases}
 use Rattle.rules.specs.Writer.{case_text, write_fault, write_answer, write_bytes}
-use Rattle.rules.specs.PolicyLine.{with_policy}
 use Rattle.lists.specs.Lists.{take-first}
 use Rattle.legal.specs.Legal.{next_clear, Legal, legal}
 use Rattle.legal.specs.Settled.{settled_clear, kept_new, settled_result}
 use Rattle.texts.specs.Passing.{row_passes, room_passes, read_clear, read_roomy}
 use Rattle.roundtrip.specs.CaseLines.{text_fits}
-use Rattle.roundtrip.specs.RoundTrip.{case_written, no_fault-written, text_read, case_accepted}
+use Rattle.roundtrip.specs.RoundTrip.{case_written, no_fault-written, with_policy, text_read, case_accepted}
 
 -- ---- the case that a caller has in hand after reading: the values of the answer, and as many numbers of the two rooms
 unfoldable pub in_hand : List ℕ → List ℕ → List ℕ → Case
@@ -88,14 +87,13 @@ read_written c room n tasks releases h p q =
     (read_as (case_text c) tasks releases (rw (read_roomy (case_text c) _ _ p q, no_fault-written c e)) (rw same (legal c e))))
 
 -- what a text with its policy line and without its returns takes up: a room of 60,000 bytes is always enough
-pub with_policy-fits : (s : List ℕ) → (text_fault s).number ≡ 0 → length (with_policy policy_when_absent (without_returns s)) ≤ max_text
+pub with_policy-fits : (s : List ℕ) → (text_fault s).number ≡ 0 → length (with_policy (without_returns s)) ≤ max_text
 with_policy-fits s h = rw (text_read s h) at (text_fits (case_in s) (case_accepted s h))
 
 write_read : (s tasks releases vs room : List ℕ)
     → read_answer s tasks releases ≡ result vs
-    → length (with_policy policy_when_absent (without_returns s)) ≤ length room
-    → WrittenAs (in_hand vs (read_tasks s tasks releases) (read_releases s tasks releases)) room
-    (with_policy policy_when_absent (without_returns s))
+    → length (with_policy (without_returns s)) ≤ length room
+    → WrittenAs (in_hand vs (read_tasks s tasks releases) (read_releases s tasks releases)) room (with_policy (without_returns s))
 unfolding read_answer
 write_read s tasks releases vs room h p =
     let a = settled_result (read_fault s (length tasks) (length releases)) (case_values (case_in s)) vs h in
@@ -144,9 +142,9 @@ read_what_was_written c bytes w later n tasks releases r ts rs wrote said p q pr
 pub written_what_was_read : (s tasks releases : List ℕ) (r : Taken) (ts rs vs bytes : List ℕ) (w : Written) (later : List ℕ)
     → ReadPromise s tasks releases r ts rs
     → taken_as r ≡ result vs
-    → length (with_policy policy_when_absent (without_returns s)) ≤ length bytes
+    → length (with_policy (without_returns s)) ≤ length bytes
     → WritePromise (in_hand vs ts rs) bytes w later
-    → Wrote (with_policy policy_when_absent (without_returns s)) bytes w later
+    → Wrote (with_policy (without_returns s)) bytes w later
 written_what_was_read s tasks releases r ts rs vs bytes w later read said p promise =
     let a = write_read s tasks releases vs bytes (sym read.answer ∙ said) p in
     let same : in_hand vs ts rs ≡ in_hand vs (read_tasks s tasks releases) (read_releases s tasks releases) =

@@ -9,19 +9,19 @@ use Rattle.rules.specs.Refusals.{in_order, last_before, release_fault, absent_fa
 use Rattle.rules.specs.Text.{same, up_to, past, has, line_return, line_of, without_returns, after_line, field_of, after_field, all_digits}
 use Rattle.rules.specs.Text.{no_leading_zero, is_number, worth, lines_by, number_in, digits_in, digits_of, procs_word, policy_word, task_word}
 use Rattle.rules.specs.Text.{end_word, release_word}
-use Rattle.rules.specs.Policies.{edf_cf, edf_cf_word, policy_name}
+use Rattle.rules.specs.Policies.{edf, edf_word, policy_name}
 use Rattle.rules.specs.Reader.{one_number, two_numbers, three_numbers, word_kind, fields_say, line_says, lines_of, may_follow, may_stop}
-use Rattle.rules.specs.Reader.{lines_fault, policy_when_absent, with_line, with_lines, case_with_default, case_in, length_fault, text_fault}
+use Rattle.rules.specs.Reader.{lines_fault, with_line, with_lines, case_with_default, case_in, length_fault, text_fault}
 use Rattle.rules.specs.Writer.{joined_text, more_fields, line_text, procs_text, policy_text, task_text, end_text, release_text, case_text}
-use Rattle.rules.specs.PolicyLine.{policy_given, with_policy}
+use Rattle.roundtrip.specs.RoundTrip.{policy_given, with_policy}
 
 -- procs 1
 abbrev first_line : List ℕ
 first_line = procs_word ++ (9 ∷ 49 ∷ 10 ∷ [])
 
--- policy edf-cf
+-- policy edf
 abbrev policy_line : List ℕ
-policy_line = policy_word ++ (9 ∷ (edf_cf_word ++ (10 ∷ [])))
+policy_line = policy_word ++ (9 ∷ (edf_word ++ (10 ∷ [])))
 
 -- task 5 1 5, end 5, release 0 1
 abbrev other_lines : List ℕ
@@ -42,21 +42,21 @@ unfolding same up_to past has line_return line_of after_line field_of after_fiel
     table_fault task_fault end_fault trace_fault in_order last_before release_fault sum absent_fault case_fault
 short_accepted = refl
 
-pub short_case : case_in short_text ≡ case_of 1 edf_cf (5 ∷ 1 ∷ 5 ∷ []) 5 (0 ∷ 1 ∷ [])
+pub short_case : case_in short_text ≡ case_of 1 edf (5 ∷ 1 ∷ 5 ∷ []) 5 (0 ∷ 1 ∷ [])
 unfolding same up_to past has line_return line_of after_line field_of after_field all_digits no_leading_zero is_number worth number_in one_number
     two_numbers three_numbers word_kind
     fields_say line_says lines_by lines_of with_line with_lines case_with_default case_in
 short_case = refl
 
-pub short_written : case_text (case_of 1 edf_cf (5 ∷ 1 ∷ 5 ∷ []) 5 (0 ∷ 1 ∷ [])) ≡ full_text
+pub short_written : case_text (case_of 1 edf (5 ∷ 1 ∷ 5 ∷ []) 5 (0 ∷ 1 ∷ [])) ≡ full_text
 unfolding tab digits_in digits_of policy_name joined_text more_fields line_text procs_text policy_text task_text end_text release_text case_text
 short_written = refl
 
-pub policy_put_in : with_policy policy_when_absent short_text ≡ full_text
+pub policy_put_in : with_policy short_text ≡ full_text
 unfolding same up_to past line_return line_of after_line field_of word_kind policy_name more_fields line_text policy_text policy_given with_policy
 policy_put_in = refl
 
-pub policy_kept : with_policy policy_when_absent full_text ≡ full_text
+pub policy_kept : with_policy full_text ≡ full_text
 unfolding same up_to past line_return line_of after_line field_of word_kind policy_given with_policy
 policy_kept = refl
 

@@ -131,7 +131,7 @@ module _ (k w : ℕ) (at : List ℕ → ℕ → Line) (lists : Lists k w at) whe
   tab-listed [] i xs a h = refl
   tab-listed (l ∷ ls) i xs a h =
       ap₂ ◌∷◌ (lists.back xs l (all_listed ls) i a.0 h)
-      (rw (← append_assoc xs (listed l) (all_listed ls))
+      (subst (λ (z : List ℕ). tab (at z) (suc i) (length ls) ≡ ls) (append_assoc xs (listed l) (all_listed ls))
       (tab-listed ls (suc i) (xs ++ listed l) a.1 (omega (arith, length-append xs (listed l), lists.wide l a.0, suc-mul i w))))
 
   pub listed_long : (ls : List Line) → All (Kind k) ls → length (all_listed ls) ≡ length ls * w

@@ -7,7 +7,7 @@ use Rattle.rules.specs.Case.{Case, case_of, task_count, release_count}
 use Rattle.rules.specs.Refusals.{unless, first, room_fault, case_fault}
 use Rattle.rules.specs.Answers.{Answer, settled, kept}
 use Rattle.rules.specs.Text.{same, lines_by, field_of, after_field, number_in, procs_word, policy_word, task_word, end_word, release_word}
-use Rattle.rules.specs.Policies.{edf_cf, policy_of}
+use Rattle.rules.specs.Policies.{edf, policy_of}
 use Rattle.rules.specs.declared.Fault.{Fault}
 use Rattle.rules.specs.declared.Num.{Num}
 use Rattle.rules.specs.declared.Num.TheVariants as Num·
@@ -100,9 +100,9 @@ lines_fault o before n (l ∷ ls) =
     first (unless (not (eqb (kind_of l) 0)) 2 n ∷ unless (o.follows before (kind_of l)) 3 n ∷ lines_fault o (kind_of l) (suc n) ls ∷ [])
 
 -- ---- the case of a text
--- without a policy line the policy is EDF-CF (request P6)
+-- without a policy line the policy is EDF
 abbrev pub policy_when_absent : ℕ
-policy_when_absent = edf_cf
+policy_when_absent = edf
 
 -- the case before the first line, p being its policy until a line names one
 abbrev pub no_case : ℕ → Case

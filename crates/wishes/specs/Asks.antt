@@ -10,7 +10,7 @@ use Rattle.rules.specs.declared.Num.TheVariants.{Value, Bad}
 use Rattle.reasons.specs.Reasons.{words}
 use Rattle.wishes.specs.declared.Asked.{Asked}
 use Rattle.wishes.specs.declared.Wish.{Wish}
-use Rattle.wishes.specs.declared.Wish.TheVariants.{Unknown, Help, Replay, Counts, Slot, Write, Slots, Log, Convert}
+use Rattle.wishes.specs.declared.Wish.TheVariants.{Unknown, Help, Replay, Counts, Slot, Write, Slots, Log}
 
 abbrev pub asked_of : Wish → Bool → Asked
 asked_of w q = record { wish = w; quiet = q }
@@ -21,9 +21,8 @@ unfoldable pub word_asks : List ℕ → Wish
 word_asks w =
     pick (same w (words "counts")) Counts
     (pick (same w (words "write")) Write
-    (pick (same w (words "convert")) Convert
     (pick (same w (words "slots")) Slots
-    (pick (same w (words "help")) Help (pick (same w (words "-h")) Help (pick (same w (words "--help")) Help Unknown))))))
+    (pick (same w (words "help")) Help (pick (same w (words "-h")) Help (pick (same w (words "--help")) Help Unknown)))))
 
 -- `slot` and its number
 unfoldable pub slot_named : List ℕ → Num → Wish
@@ -75,7 +74,6 @@ is_asked (Slot s) = true
 is_asked Write = true
 is_asked Slots = true
 is_asked (Log k) = true
-is_asked Convert = true
 
 unfoldable pub is_known : List ℕ → Bool
 is_known w =
@@ -93,4 +91,3 @@ asked_fault (Slot s) e = slot_fault e s
 asked_fault Write e = no_fault
 asked_fault Slots e = no_fault
 asked_fault (Log k) e = no_fault
-asked_fault Convert e = no_fault

@@ -19,7 +19,6 @@ pub enum Wish {
     Write,
     Slots,
     Log { word: u32 },
-    Convert,
 }
 
 // What is asked, and whether the words of a refusal are left out.
@@ -44,9 +43,6 @@ fn alone(word: &[u8]) -> Wish
     }
     if words::same_bytes(word, b"write") {
         return Wish::Write;
-    }
-    if words::same_bytes(word, b"convert") {
-        return Wish::Convert;
     }
     if words::same_bytes(word, b"slots") {
         return Wish::Slots;

@@ -44,9 +44,6 @@ enum-told-6 c = search rules
 enum-told-7 : tie.Need-enum-told-7
 enum-told-7 c = search rules
 
-enum-told-8 : tie.Need-enum-told-8
-enum-told-8 c = search rules
-
 same_length : tie.Need-same-length
 same_length c = search rules
 
@@ -91,10 +88,6 @@ returns-8 : tie.Need-returns-8
 unfolding case_says
 returns-8 c = wish_shown _ _ _ _ _ _ c.enum-told7.given.1 (nothing_shown _)
 
-returns-9 : tie.Need-returns-9
-unfolding case_says
-returns-9 c = wish_shown _ _ _ _ _ _ c.enum-told8.given.1 (nothing_shown _)
-
 pub put-wish-spec : {M : Type 1} → statement M
 put-wish-spec =
     tie.close
@@ -111,7 +104,6 @@ put-wish-spec =
     enum-told-5
     enum-told-6
     enum-told-7
-    enum-told-8
     same_length
     returns
     same-length-2
@@ -123,5 +115,4 @@ put-wish-spec =
     returns-5
     returns-6
     returns-7
-    returns-8
-    returns-9)
+    returns-8)

@@ -8,26 +8,23 @@ use Rattle.rules.specs.Text.{same}
 use Rattle.reasons.specs.Reasons.{sign_bytes, words}
 use Rattle.wishes.specs.Asks.{word_asks}
 use Rattle.wishes.specs.declared.Wish.{Wish}
-use Rattle.wishes.specs.declared.Wish.TheVariants.{Unknown, Help, Write, Slots, Convert}
+use Rattle.wishes.specs.declared.Wish.TheVariants.{Unknown, Help, Write, Slots}
 use borrow.Author.Rules.{rules}
 use Rattle.wishes.proofs.alone.Statement.{statement}
 use Rattle.wishes.proofs.alone.Tie as tie
 
 -- ---- the row of tests from its second on
-abbrev seventh : List ℕ → Wish
-seventh w = pick (same w (words "--help")) Help Unknown
-
 abbrev sixth : List ℕ → Wish
-sixth w = pick (same w (words "-h")) Help (seventh w)
+sixth w = pick (same w (words "--help")) Help Unknown
 
 abbrev fifth : List ℕ → Wish
-fifth w = pick (same w (words "help")) Help (sixth w)
+fifth w = pick (same w (words "-h")) Help (sixth w)
 
 abbrev fourth : List ℕ → Wish
-fourth w = pick (same w (words "slots")) Slots (fifth w)
+fourth w = pick (same w (words "help")) Help (fifth w)
 
 abbrev third : List ℕ → Wish
-third w = pick (same w (words "convert")) Convert (fourth w)
+third w = pick (same w (words "slots")) Slots (fourth w)
 
 abbrev second : List ℕ → Wish
 second w = pick (same w (words "write")) Write (third w)
@@ -39,44 +36,29 @@ past test found rest e = rw e
 abbrev word : tie.Else1 → List ℕ
 word c = c.before.before.before.before.args.word.now
 
-abbrev word2 : tie.Else2 → List ℕ
-word2 c = word c.before.before.before
-
-abbrev word3 : tie.Else3 → List ℕ
-word3 c = word2 c.before.before.before
-
-abbrev word4 : tie.Else4 → List ℕ
-word4 c = word3 c.before.before.before
-
-abbrev word5 : tie.Else5 → List ℕ
-word5 c = word4 c.before.before.before
-
-abbrev word6 : tie.Else6 → List ℕ
-word6 c = word5 c.before.before.before
-
 past_first : (c : tie.Else1) → word_asks (word c) ≡ second (word c)
 unfolding word_asks words sign_bytes
 past_first c = past _ _ _ (sym c.before.same_bytes.ensures ∙ c.if1.false)
 
-past_second : (c : tie.Else2) → word_asks (word2 c) ≡ third (word2 c)
+past_second : (c : tie.Else2) → word_asks (word c.before.before.before) ≡ third (word c.before.before.before)
 unfolding words sign_bytes
 past_second c = past_first c.before.before.before ∙ past _ _ _ (sym c.before.same-bytes2.ensures ∙ c.if2.false)
 
-past_third : (c : tie.Else3) → word_asks (word3 c) ≡ fourth (word3 c)
+past_third : (c : tie.Else3) → word_asks (word c.before.before.before.before.before.before)
+    ≡ fourth (word c.before.before.before.before.before.before)
 unfolding words sign_bytes
 past_third c = past_second c.before.before.before ∙ past _ _ _ (sym c.before.same-bytes3.ensures ∙ c.if3.false)
 
-past_fourth : (c : tie.Else4) → word_asks (word4 c) ≡ fifth (word4 c)
+past_fourth : (c : tie.Else4) → word_asks (word c.before.before.before.before.before.before.before.before.before)
+    ≡ fifth (word c.before.before.before.before.before.before.before.before.before)
 unfolding words sign_bytes
 past_fourth c = past_third c.before.before.before ∙ past _ _ _ (sym c.before.same-bytes4.ensures ∙ c.if4.false)
 
-past_fifth : (c : tie.Else5) → word_asks (word5 c) ≡ sixth (word5 c)
+past_fifth : (c : tie.Else5)
+    → word_asks (word c.before.before.before.before.before.before.before.before.before.before.before.before)
+    ≡ sixth (word c.before.before.before.before.before.before.before.before.before.before.before.before)
 unfolding words sign_bytes
 past_fifth c = past_fourth c.before.before.before ∙ past _ _ _ (sym c.before.same-bytes5.ensures ∙ c.if5.false)
-
-past_sixth : (c : tie.Else6) → word_asks (word6 c) ≡ seventh (word6 c)
-unfolding words sign_bytes
-past_sixth c = past_fifth c.before.before.before ∙ past _ _ _ (sym c.before.same-bytes6.ensures ∙ c.if6.false)
 
 -- ---- the tests, and what is returned where one holds
 slice-aggregate-same-bytes : tie.Need-slice-aggregate-same-bytes
@@ -139,19 +121,9 @@ returns-6 : tie.Need-returns-6
 unfolding words sign_bytes
 returns-6 c = sym (past_fifth c.before.before.before ∙ rw (sym c.before.same-bytes6.ensures ∙ c.if6.true))
 
-slice-aggregate-same-bytes-7 : tie.Need-slice-aggregate-same-bytes-7
-slice-aggregate-same-bytes-7 c = search rules
-
-same-bytes-requires-7 : tie.Need-same-bytes-requires-7
-same-bytes-requires-7 c κs = search rules
-
 returns-7 : tie.Need-returns-7
 unfolding words sign_bytes
-returns-7 c = sym (past_sixth c.before.before.before ∙ rw (sym c.before.same-bytes7.ensures ∙ c.if7.true))
-
-returns-8 : tie.Need-returns-8
-unfolding words sign_bytes
-returns-8 c = sym (past_sixth c.before.before.before ∙ past _ _ _ (sym c.before.same-bytes7.ensures ∙ c.if7.false))
+returns-7 c = sym (past_fifth c.before.before.before ∙ past _ _ _ (sym c.before.same-bytes6.ensures ∙ c.if6.false))
 
 pub alone-spec : {M : Type 1} → statement M
 alone-spec =
@@ -175,7 +147,4 @@ alone-spec =
     slice-aggregate-same-bytes-6
     same-bytes-requires-6
     returns-6
-    slice-aggregate-same-bytes-7
-    same-bytes-requires-7
-    returns-7
-    returns-8)
+    returns-7)
