@@ -40,7 +40,7 @@ copied = refl
 -- what the old text meant, what it means now, and what the converted one means
 pub record Meant : Type 0 where
   pub before : old_case_in old_text ≡ case_of 1 edf (5 ∷ 1 ∷ 5 ∷ []) 5 (0 ∷ 1 ∷ [])
-  pub now : case_in old_text ≡ case_of 1 edf_cf (5 ∷ 1 ∷ 5 ∷ []) 5 (0 ∷ 1 ∷ [])
+  pub now : case_in old_text ≡ case_of 1 edf (5 ∷ 1 ∷ 5 ∷ []) 5 (0 ∷ 1 ∷ [])
   pub after : case_in new_text ≡ case_of 1 edf (5 ∷ 1 ∷ 5 ∷ []) 5 (0 ∷ 1 ∷ [])
 
 pub meant : Meant
