@@ -5,8 +5,8 @@ use Rattle.kinds.proofs.end_fields.Goals as goal
 
 pub returns-in_default : goal.returns-in_default
 unfolding one_number
-returns-in_default c = rw (sym c.number.ensures ∙ c.enum_told-1.is)
+returns-in_default c = rw (sym c.number.ensures ∙ c.in_default.is)
 
 pub returns : goal.returns
 unfolding one_number
-returns c = rw (sym c.number.ensures ∙ c.value-1.is)
+returns c = rw (sym c.number.ensures ∙ c.in-Value.is)

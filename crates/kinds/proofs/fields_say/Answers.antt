@@ -1,6 +1,7 @@
 -- `kinds::fields_say` meets its contract: each arm is the choice that its number makes.
 use borrow.Author.Tests.{ne_eqb}
 use Rattle.rules.specs.Reader.{fields_say}
+use native.Mathlib.Omega.{arith}
 use Rattle.kinds.proofs.fields_say.Goals as goal
 
 pub returns-in-1 : goal.returns-in-1
@@ -26,12 +27,10 @@ returns-in-5 c = rw c.in-5.is c.release_fields.ensures
 pub returns-in_default : goal.returns-in_default
 unfolding fields_say
 returns-in_default c =
-    let other = c.in_default.rest in
     rw (
-      ne_eqb _ 1 other.0.0.0.0.1,
-      ne_eqb _ 2 other.0.0.0.1,
-      ne_eqb _ 3 other.0.0.1,
-      ne_eqb _ 4
-          other.0.1,
-      ne_eqb _ 5 other.1,
+      ne_eqb c.args.kind 1 (λ e. omega arith),
+      ne_eqb c.args.kind 2 (λ e. omega arith),
+      ne_eqb c.args.kind 3 (λ e. omega arith),
+      ne_eqb c.args.kind 4 (λ e. omega arith),
+      ne_eqb c.args.kind 5 (λ e. omega arith),
     )
