@@ -1,0 +1,30 @@
+-- `heard::scan_byte` meets its contract.
+use mathlib.Core.Path.{sym, ap, ◌∙◌}
+use Prim.Native.Nat.{ℕ, ◌≤◌}
+use native.Mathlib.Omega.{arith}
+use Rattle.feeds.specs.LineScan.{scan_byte}
+use Rattle.heard.specs.Scans.{scan_as}
+use Rattle.heard.proofs.Scanning.{small_number, not_first, wrong_on, scan_other}
+use Rattle.heard.proofs.scan_byte.Goals as goal
+
+pub returns-then-phase-eq-WORD : goal.returns-then-phase-eq-WORD
+returns-then-phase-eq-WORD c =
+    let now = c.args.named.now in
+    (c.requires.named_len, c.word_byte.ensures now ∙ scan_other (scan_as c.args.s now) c.args.b c.if-b-eq13.false)
+
+pub returns-then-phase-ge-WRONG : goal.returns-then-phase-ge-WRONG
+returns-then-phase-ge-WRONG c =
+    let s = c.args.s in
+    let now = c.args.named.now in (
+      c.requires.named_len,
+      wrong_on s.phase s.digits s.value s.time s.low s.rises s.names _ c.args.b
+          (omega (arith, c.if-phase-ge-WRONG.true))
+          ∙ scan_other (scan_as s now) c.args.b c.if-b-eq13.false,
+    )
+
+pub returns : goal.returns
+returns c =
+    let t = c.number_byte.ensures in (
+      t.0,
+      t.1 ∙ scan_other (scan_as c.args.s c.args.named.now) c.args.b c.if-b-eq13.false,
+    )

@@ -1,0 +1,24 @@
+-- `heard::scan_digits` meets its contract.
+use mathlib.Core.Path.{◌≡◌, sym, ◌∙◌}
+use mathlib.Core.Bool.{Bool, true}
+use mathlib.Core.List.{List}
+use Prim.Native.Nat.{◌-◌, ◌<◌}
+use native.Mathlib.Omega.{arith}
+use lib.ListN.{length, get_or}
+use Rattle.lists.specs.Lists.{members}
+use Rattle.feeds.specs.NumScan.{num_so_far, fits}
+use Rattle.feeds.specs.Bounds.{NumSmall}
+use Rattle.heard.specs.Scans.{scan_as, phase_as}
+use Rattle.heard.specs.Lines.{Goes}
+use Rattle.heard.proofs.Scanning.{fits_digit, small_worth}
+use Rattle.heard.proofs.Going.{line_digit, goes_none, goes_both, goes_digit, small_digit}
+use Rattle.heard.proofs.scan_digits.Given as goal
+
+abbrev pub invariant-loop-value : goal.invariant-loop-value
+invariant-loop-value l =
+    NumSmall (num_so_far l.digits l.value)
+    × ((xs : List Bool) → Goes l.piece l.from (scan_as l.s xs) l.i
+    (phase_as l.s.phase l.digits l.value l.s.time l.s.low l.s.rises l.s.names (members xs)))
+
+abbrev pub decreases-loop-value : goal.decreases-loop-value
+decreases-loop-value l = length l.piece - l.i
