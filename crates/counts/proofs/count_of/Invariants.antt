@@ -1,0 +1,18 @@
+-- `counts::count_of` meets its contract.
+use native.Mathlib.Omega.{arith}
+use mathlib.Core.List.{List}
+use mathlib.Core.Path.{◌≡◌, refl, ap, ◌∙◌}
+use Prim.Native.Nat.{ℕ, ◌-◌, ◌*◌, ◌≤◌}
+use Rattle.rules.specs.Words.{sum}
+use Rattle.rules.specs.Case.{task_count, period, deadline}
+use Rattle.rules.specs.Counts.{availability, availabilities}
+use Rattle.counts.specs.Needs.{max_availability}
+use Rattle.counts.proofs.Sums.{added, count_low, count_high}
+use Rattle.counts.proofs.count_of.Given as goal
+
+abbrev pub invariant-loop-i : goal.invariant-loop-i
+invariant-loop-i l = (l.i ≤ l.tasks) × (l.sum ≤ l.i * max_availability)
+    × (l.sum ≡ sum (λ i. availability (period l.table i) (deadline l.table i) l.slots) 0 l.i)
+
+abbrev pub decreases-loop-i : goal.decreases-loop-i
+decreases-loop-i l = l.tasks - l.i
