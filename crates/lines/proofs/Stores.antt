@@ -61,14 +61,9 @@ module _ (room width n : ℕ) (old : List ℕ) (w : Whole room width n old) wher
       → Added room width n new old (n + 2) (set (set old n a) (n + 1) b)
   adds_two new a b e l m = rw e (adds_some (a ∷ b ∷ []) (set (set old n a) (n + 1) b) (n + 2) (omega arith) l m (rw (add-one n)))
 
-none_of_five : {a b d e f x : ℕ} → OneOf (a ∷ b ∷ d ∷ e ∷ f ∷ []) x → (x ≡ a → ⊥) → (x ≡ b → ⊥)
-    → (x ≡ d → ⊥) → (x ≡ e → ⊥) → (x ≡ f → ⊥)
-    → ⊥
-none_of_five h p q r s t = ⊎_elim p (⊎_elim q (⊎_elim r (⊎_elim s t))) h
-
 -- a line that is not badly formed has a kind
-pub not_bad : (l : Line) → OneOf (1 ∷ 2 ∷ 3 ∷ 4 ∷ 5 ∷ []) (tag_of the_type l) → kind_of l ≡ 0 → ⊥
-not_bad Bad h e = none_of_five h (λ z. omega arith) (λ z. omega arith) (λ z. omega arith) (λ z. omega arith) (λ z. omega arith)
+pub not_bad : (l : Line) → (l ≡ Bad → ⊥) → kind_of l ≡ 0 → ⊥
+not_bad Bad h e = h refl
 not_bad (Procs m) h e = omega arith
 not_bad (Policy p) h e = omega arith
 not_bad (Row T C D) h e = omega arith
@@ -76,20 +71,18 @@ not_bad (End x) h e = omega arith
 not_bad (Release t n) h e = omega arith
 
 -- a line of another kind adds no numbers
-pub not_row : (l : Line) → OneOf (0 ∷ 1 ∷ 2 ∷ 4 ∷ 5 ∷ []) (tag_of the_type l) → row_numbers l ≡ []
+pub not_row : (l : Line) → ((T C D : ℕ) → l ≡ Row T C D → ⊥) → row_numbers l ≡ []
 not_row Bad h = refl
 not_row (Procs m) h = refl
 not_row (Policy p) h = refl
-not_row (Row T C D) h = absurd (none_of_five h (λ e. omega arith) (λ e. omega arith) (λ e. omega arith) (λ e. omega arith)
-    (λ e. omega arith))
+not_row (Row T C D) h = absurd (h T C D refl)
 not_row (End e) h = refl
 not_row (Release t n) h = refl
 
-pub not_release : (l : Line) → OneOf (0 ∷ 1 ∷ 2 ∷ 3 ∷ 4 ∷ []) (tag_of the_type l) → release_numbers l ≡ []
+pub not_release : (l : Line) → ((t n : ℕ) → l ≡ Release t n → ⊥) → release_numbers l ≡ []
 not_release Bad h = refl
 not_release (Procs m) h = refl
 not_release (Policy p) h = refl
 not_release (Row T C D) h = refl
 not_release (End e) h = refl
-not_release (Release t n) h = absurd (none_of_five h (λ e. omega arith) (λ e. omega arith) (λ e. omega arith) (λ e. omega arith)
-    (λ e. omega arith))
+not_release (Release t n) h = absurd (h t n refl)
