@@ -1,0 +1,9 @@
+-- `reader::put_numbers` meets its contract.
+use native.Mathlib.Omega.{arith}
+use Prim.Native.Nat.{◌-◌}
+use lib.ListN.{length}
+use Rattle.reader.proofs.Copies.{Copying, copying_none, copying_on, copying_all}
+use Rattle.reader.proofs.put_numbers.Goals as goal
+
+pub loop-i-preserved : goal.loop-i-preserved
+loop-i-preserved c = copying_on _ _ c.requires _ _ c.loop-i-test.true c.loop-i.invariant

@@ -1,0 +1,12 @@
+-- `reader::put_numbers` meets its contract.
+use native.Mathlib.Omega.{arith}
+use Prim.Native.Nat.{◌-◌}
+use lib.ListN.{length}
+use Rattle.reader.proofs.Copies.{Copying, copying_none, copying_on, copying_all}
+use Rattle.reader.proofs.put_numbers.Given as goal
+
+abbrev pub invariant-loop-i : goal.invariant-loop-i
+invariant-loop-i l = Copying l.initial.room l.numbers l.room l.i
+
+abbrev pub decreases-loop-i : goal.decreases-loop-i
+decreases-loop-i l = length l.numbers - l.i
