@@ -1,3 +1,4 @@
+pub mod Counting
 pub mod Trace
 pub mod Quiet
 pub mod Going

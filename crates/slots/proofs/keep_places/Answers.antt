@@ -10,4 +10,4 @@ pub loop-k-preserved : goal.loop-k-preserved
 loop-k-preserved c =
     let q = c.requires in
     let l = c.loop-k in
-    keeping_more _ _ l.k _ _ q.0 q.1.1.0 c.loop-k-test.true (ap (λ (n : ℕ). n - 1) c.name_of.ensures) l.invariant
+    keeping_more _ _ l.k _ _ q.orderly q.next_bound c.loop-k-test.true (ap (λ (n : ℕ). n - 1) c.name_of.ensures) l.invariant

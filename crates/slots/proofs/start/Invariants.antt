@@ -15,6 +15,7 @@ use Rattle.rules.specs.Replay.{idle_task}
 use Rattle.rules.specs.Slot.{run_of, no_task}
 use Rattle.lists.specs.Lists.{tab_long, tab_at}
 use Rattle.lists.specs.Fill.{Filling, filling_all, filling_none, filling_store}
+use Rattle.slots.proofs.Counting.{Counting}
 use Rattle.slots.proofs.start.Given as goal
 
 abbrev pub invariant-loop-i : goal.invariant-loop-i

@@ -1,7 +1,6 @@
 -- `slots::walk` meets its contract: each slot goes on from the one before it, and a slot that rests is passed over.
 use mathlib.Core.Path.{◌≡◌, refl, sym, ◌∙◌}
 use mathlib.Core.Bool.{true≢false}
-use mathlib.Core.Logic.{⊎_elim}
 use Prim.Native.Nat.{◌-◌, ◌<◌}
 use native.Mathlib.Omega.{arith}
 use Rattle.rules.specs.Words.{tab}
@@ -12,6 +11,7 @@ use Rattle.traces.specs.Given.{orderly, needed}
 use Rattle.slots.proofs.Going.{slot_of, turned, handed, roomy, room_next}
 use Rattle.slots.proofs.Going.{Going, walking_none, last_none, noted_here, going_more, going_on}
 use Rattle.slots.proofs.walk.Goals as goal
+use Rattle.slots.proofs.walk.Goals.{then-rests, else-rests+then-noting, else-rests+else-noting}
 
 -- ---- before the first slot
 pub start-run-requires : goal.start-run-requires
@@ -33,38 +33,35 @@ pub pass_releases-next-requires : goal.pass_releases-next-requires
 pass_releases-next-requires c =
     let g = legal _ c.requires.accepted in
     let v = c.loop-clock.invariant in
-    (orderly _ g, (v.walks.reached, (g.releases_few, v.walks.at_place)))
+    record { orderly = orderly _ g; reached = v.walks.reached; trace_bound = g.releases_few; place_value = v.walks.at_place }
 
 pub settle-run-requires : goal.settle-run-requires
 settle-run-requires c =
     -- a turn is before the end
-    let early : c.loop-clock.clock < c.args.end = omega (arith, c.loop-clock-test.true, c.before.before.before.before.before.before.before.pre.1.0) in
-    needed _ (legal _ c.before.before.before.before.before.before.before.before.before.before.before.before.before.before.before.before.before.before.pre.0) _ early _ c.pass_releases-next.ensures.2 _ c.start-run.ensures.1
+    let early : c.loop-clock.clock < c.args.end = omega (arith, c.loop-clock-test.true, c.requires.until_le_end) in
+    needed _ (legal _ c.requires.accepted) _ early _ c.pass_releases-next.ensures.2 _ c.start-run.ensures.1
 
 pub work-run-requires : goal.work-run-requires
 work-run-requires c =
     -- a turn is before the end
-    let early : c.loop-clock.clock < c.args.end = omega (arith, c.loop-clock-test.true, c.before.before.before.before.before.before.before.pre.1.0) in
-    let e : c.loop-clock.clock < c.args.end = early in (
-      omega (arith, e, (legal _ c.before.before.before.before.before.before.before.before.before.before.before.before.before.before.before.before.before.before.before.before.before.before.before.before.pre.0).end_small),
-      (
-        c.settle-run.ensures.jobs,
-        among c.args.procs c.args.policy c.loop-clock.clock _ _ c.choose-bound.ensures,
-      ),
-    )
+    let early : c.loop-clock.clock < c.args.end = omega (arith, c.loop-clock-test.true, c.requires.until_le_end) in
+    record {
+      early = omega (arith, early, (legal _ c.requires.accepted).end_small);
+      jobs_value = c.settle-run.ensures.jobs;
+      among = among c.args.procs c.args.policy c.loop-clock.clock _ _ c.choose-bound.ensures;
+    }
 
 pub note_slot-requires : goal.note_slot-requires
 note_slot-requires c =
     -- a turn is before the end
-    let early : c.loop-clock.clock < c.args.end = omega (arith, c.loop-clock-test.true, c.before.before.before.before.before.before.before.pre.1.0) in
-    let g = legal _ (start_of (goal.at.note_slot-requires c).At-loop-clock).pre.0 in
-    let v = c.loop-clock.inv in
-    let e : c.loop-clock.clock < (start_of (goal.at.note_slot-requires c).At-loop-clock).args.end = early in
+    let early : c.loop-clock.clock < c.args.end = omega (arith, c.loop-clock-test.true, c.requires.until_le_end) in
+    let g = legal _ c.requires.accepted in
+    let v = c.loop-clock.invariant in
     let r = c.pass_releases-next.ensures in
     let chosen = c.choose-bound.ensures in
     let k = slot_of _ _ _ r.2 _ v.walks.at_run _ _ _ _ _ c.settle-run.ensures _ chosen _ _ _ c.work-run.ensures in
     let h = handed _ _ _ r.2 _ v.walks.at_run _ _ _ _ _ _ _ k _ _ r.1 in
-    let noted = noted_here _ _ _ _ _ _ _ _ _ _ _ v c.if-noting.true in record { roomy = roomy _ g _ _ noted _ r.0 _ _ _ _ h; clock_lt_max_end = omega (arith, e, g.end_small) }
+    let noted = noted_here _ _ _ _ _ _ _ _ _ _ _ v c.if-noting.true in record { roomy = roomy _ g _ _ noted _ r.0 _ _ _ _ h; clock_lt_max_end = omega (arith, early, g.end_small) }
 
 pub loop-clock-preserved : goal.loop-clock-preserved
 unfolding tab
@@ -72,21 +69,19 @@ loop-clock-preserved c =
     let g = legal _ c.requires.accepted in
     let v = c.loop-clock.invariant in
     let k = c.loop-clock-test.true in
-    ⊎_elim
-    (λ w. rw (w.1, w.2, w.3, w.4, w.5, w.7)
-    (going_on _ _ _ _ _ _ _ _ _ _ _ v k g (c.rests.ensures w.0.taken)))
-    (⊎_elim
-    (λ w.
-    let a = w.3.ensures in
-    let s = slot_of _ _ _ a.2 _ v.walks.at_run _ _ _ _ _ w.10.ensures _ w.12.ensures _ _ _ w.16.ensures in
-    let h = handed _ _ _ a.2 _ v.walks.at_run _ _ _ _ _ _ _ s _ _ a.1 in
-    let t = turned _ _ _ a.2 _ v.walks.at_run _ _ _ _ _ _ _ s _ _ a.0 a.1 in
-    rw (w.26, w.27, w.28, w.29, w.30, w.32) (going_more _ _ _ _ _ _ _ _ _ _ _ v k _ _ _ _ _ _ t w.24.given
-    (λ z. room_next _ g _ _ (noted_here _ _ _ _ _ _ _ _ _ _ _ v z) _ a.0 _ _ _ _ h _ w.23.ensures)))
-    (λ w.
-    let a = w.3.ensures in
-    let s = slot_of _ _ _ a.2 _ v.walks.at_run _ _ _ _ _ w.10.ensures _ w.12.ensures _ _ _ w.16.ensures in
-    let t = turned _ _ _ a.2 _ v.walks.at_run _ _ _ _ _ _ _ s _ _ a.0 a.1 in
-    rw (w.18, w.19, w.20, w.21, w.22, w.24)
-    (going_more _ _ _ _ _ _ _ _ _ _ _ v k _ _ _ _ _ _ t refl (λ z. absurd (true≢false (sym z ∙ w.17.left))))))
-    c.if-rests.branch
+    elim c.if-rests.branch [
+      then-rests w ↦ rw (w.out-is, w.run-is, w.place-is, w.next-is, w.jobs-is, w.ran-is) (going_on _ _ _ _ _ _ _ _ _ _ _ v k g (c.rests.ensures w.if-rests.true))
+    | else-rests+then-noting w ↦
+        let a = w.pass_releases-next.ensures in
+        let s = slot_of _ _ _ a.2 _ v.walks.at_run _ _ _ _ _ w.settle-run.ensures _ w.choose-bound.ensures _ _ _ w.work-run.ensures in
+        let h = handed _ _ _ a.2 _ v.walks.at_run _ _ _ _ _ _ _ s _ _ a.1 in
+        let t = turned _ _ _ a.2 _ v.walks.at_run _ _ _ _ _ _ _ s _ _ a.0 a.1 in
+        rw (w.out-is, w.run-is, w.place-is, w.next-is, w.jobs-is, w.ran-is) (going_more _ _ _ _ _ _ _ _ _ _ _ v k _ _ _ _ _ _ t w.note_slot.auto.out
+        (λ z. room_next _ g _ _ (noted_here _ _ _ _ _ _ _ _ _ _ _ v z) _ a.0 _ _ _ _ h _ w.note_slot.ensures))
+    | else-rests+else-noting w ↦
+        let a = w.pass_releases-next.ensures in
+        let s = slot_of _ _ _ a.2 _ v.walks.at_run _ _ _ _ _ w.settle-run.ensures _ w.choose-bound.ensures _ _ _ w.work-run.ensures in
+        let t = turned _ _ _ a.2 _ v.walks.at_run _ _ _ _ _ _ _ s _ _ a.0 a.1 in
+        rw (w.out-is, w.run-is, w.place-is, w.next-is, w.jobs-is, w.ran-is)
+        (going_more _ _ _ _ _ _ _ _ _ _ _ v k _ _ _ _ _ _ t refl (λ z. absurd (true≢false (sym z ∙ w.if-noting.false))))
+    ]
