@@ -495,3 +495,7 @@ case_refused c s x e h = refuses x _ (stop x (case_fault c) _ e h) [] h
 pub case_clear : (c : Case) (x : Fault) → x ≡ case_fault c → x.number ≡ 0 → Accepted c
 unfolding Accepted
 case_clear c x e z = ap (λ (f : Fault). f.number) (sym e) ∙ z
+
+-- where no set works there is no job
+pub none_left : (number jobs : ℕ) → number ≡ 0 → (eqb number 0 && not (eqb jobs 0)) ≡ false → jobs ≡ 0
+none_left number jobs n e = eqb-true jobs 0 (not_left (eqb jobs 0) (rw (eq-eqb number 0 n) at e))

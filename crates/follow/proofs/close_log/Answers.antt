@@ -1,0 +1,29 @@
+-- `follow::close_log` meets its contract.
+use mathlib.Core.Path.{◌≡◌, sym, ◌∙◌}
+use native.Mathlib.Omega.{arith}
+use Rattle.lists.specs.Tests.{not_is}
+use Rattle.follow.proofs.Following.{not_left, over_fault, over_unended, over_number, over_none}
+use Rattle.follow.proofs.close_log.Goals as goal
+
+pub returns-then-number-ne0 : goal.returns-then-number-ne0
+returns-then-number-ne0 c = λ k f e w. over_fault k f _ w c.if-number-ne0.true
+
+pub returns-then-not-is_start : goal.returns-then-not-is_start
+returns-then-not-is_start c =
+    let s = c.is_start in
+    λ k f e w. over_unended k f _ w s.result c.if-number-ne0.false
+    (s.ensures c.args.log.named) c.if-not-is_start.true
+
+pub returns-then-lines-end : goal.returns-then-lines-end
+returns-then-lines-end c =
+    let s = c.is_start in
+    λ k f e w. over_number k f _ w s.result c.if-number-ne0.false
+    (s.ensures c.args.log.named) c.if-not-is_start.false
+    (λ z. c.if-lines-end.true (z ∙ e))
+
+pub returns : goal.returns
+returns c =
+    let s = c.is_start in
+    λ k f e w. over_none k f _ w s.result c.if-number-ne0.false
+    (s.ensures c.args.log.named) c.if-not-is_start.false
+    (c.if-lines-end.false ∙ sym e)
