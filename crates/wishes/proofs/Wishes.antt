@@ -2,41 +2,29 @@
 use mathlib.Core.Path.{◌≡◌, refl}
 use mathlib.Core.Bool.{true, false}
 use mathlib.Core.List.{List, [], ◌∷◌}
-use mathlib.Core.Logic.{⊎_elim}
 use Prim.Native.Nat.{ℕ, zero, suc}
 use native.Mathlib.Omega.{arith}
-use types.Run.{OneOf}
-use denote.Enum.Declared.{tag_of}
 use Rattle.rules.specs.Refusals.{no_fault}
 use Rattle.wishes.specs.Asks.{asked_of, words_ask, is_asked, asked_fault}
 use Rattle.wishes.specs.declared.Wish.{Wish}
 use Rattle.wishes.specs.declared.Wish.TheVariants.{Unknown, Help, Replay, Counts, Slot, Write, Slots, Log}
-use Rattle.wishes.specs.contracts.Wish.{the_type}
-
-none-of-seven : {a b d e f g h x : ℕ} → OneOf (a ∷ b ∷ d ∷ e ∷ f ∷ g ∷ h ∷ []) x
-    → (x ≡ a → ⊥) → (x ≡ b → ⊥) → (x ≡ d → ⊥) → (x ≡ e → ⊥)
-    → (x ≡ f → ⊥) → (x ≡ g → ⊥) → (x ≡ h → ⊥)
-    → ⊥
-none-of-seven o p q r s t u v = ⊎_elim p (⊎_elim q (⊎_elim r (⊎_elim s (⊎_elim t (⊎_elim u v))))) o
 
 -- a wish that names no slot has no fault of its own
-pub no_slot : (w : Wish) (e : ℕ) → OneOf (0 ∷ 1 ∷ 2 ∷ 3 ∷ 5 ∷ 6 ∷ 7 ∷ []) (tag_of the_type w)
-    → no_fault ≡ asked_fault w e
+pub no_slot : (w : Wish) (e : ℕ) → ((s : ℕ) → w ≡ Slot s → ⊥) → no_fault ≡ asked_fault w e
 unfolding asked_fault
 no_slot Unknown e h = refl
 no_slot Help e h = refl
 no_slot Replay e h = refl
 no_slot Counts e h = refl
-no_slot (Slot s) e h = absurd (none-of-seven h (λ x. omega arith) (λ x. omega arith) (λ x. omega arith) (λ x. omega arith)
-    (λ x. omega arith) (λ x. omega arith) (λ x. omega arith))
+no_slot (Slot s) e h = absurd (h s refl)
 no_slot Write e h = refl
 no_slot Slots e h = refl
 no_slot (Log k) e h = refl
 
-pub some_asked : (w : Wish) → OneOf (1 ∷ 2 ∷ 3 ∷ 4 ∷ 5 ∷ 6 ∷ 7 ∷ []) (tag_of the_type w) → is_asked w ≡ true
+-- one that is not unknown is asked
+pub some_asked : (w : Wish) → (w ≡ Unknown → ⊥) → is_asked w ≡ true
 unfolding is_asked
-some_asked Unknown h = absurd (none-of-seven h (λ x. omega arith) (λ x. omega arith) (λ x. omega arith) (λ x. omega arith)
-    (λ x. omega arith) (λ x. omega arith) (λ x. omega arith))
+some_asked Unknown h = absurd (h refl)
 some_asked Help h = refl
 some_asked Replay h = refl
 some_asked Counts h = refl
