@@ -1,6 +1,6 @@
 -- What one slot writes: the record of a task's job (`record_by` of rules, Replay) changes only where the job finishes or is demoted in the
 -- slot, or is to be removed as missed right after it; and what it is then. The proofs of the replay cite it: it writes nothing else.
-use Rattle.std.specs.Prelude.{◌≡◌, refl, Bool, true, false, ◌&&◌, ◌||◌, ℕ, suc, ◌-◌, ◌<◌, eqb, leb}
+use Rattle.std.specs.Prelude.{◌≡◌, refl, Bool, true, false, ◌&&◌, ◌||◌, ℕ, suc, ◌<◌, eqb, leb}
 use Rattle.std.proofs.Math.Path.{ap}
 use Rattle.std.proofs.Common.{sym, ◌∙◌, true≢false, arith, eqb-true, le-leb}
 use Rattle.std.proofs.Math.Bool.{and-false}

@@ -1,7 +1,7 @@
 -- The bridge from records to states: the replay is a course (Course), so at each time up to its deadline the job of a release is there and
 -- unfinished or finished and gone, by the finish and the demotion of its record (rules, Replay). The proofs of the replay rest on it.
 -- Also `state_split`: going l + k slots is going l, then k.
-use Rattle.std.specs.Prelude.{◌≡◌, refl, Bool, true, false, ◌&&◌, ◌||◌, ℕ, zero, suc, ◌+◌, ◌-◌, ◌<◌}
+use Rattle.std.specs.Prelude.{◌≡◌, refl, Bool, true, false, ◌&&◌, ◌||◌, ℕ, zero, suc, ◌+◌, ◌<◌}
 use Rattle.std.proofs.Common.{sym, ◌∙◌, add-zero, add-suc, zero-add, add_assoc}
 use Rattle.std.proofs.Math.Path.{ap, fun_ext}
 use Rattle.rules.specs.Words.{pick, first_in}

@@ -1,6 +1,6 @@
 -- What each step of a slot does to the job of one task: the definitions of rules, Slot, which speak of the whole run, read at one index,
 -- and that a run keeps its 32 tasks. Cited wherever one job is followed: by Jobs and Stands here, by the crates slot and theory.
-use Rattle.std.specs.Prelude.{◌≡◌, refl, Bool, true, false, ◌&&◌, ℕ, ◌-◌, ◌<◌, length}
+use Rattle.std.specs.Prelude.{◌≡◌, refl, Bool, true, false, ◌&&◌, ℕ, ◌<◌, length}
 use Rattle.std.proofs.Math.Path.{ap, ap₂}
 use Rattle.std.proofs.Common.{◌∙◌, arith}
 use Rattle.std.proofs.Math.ListN.{get_or}

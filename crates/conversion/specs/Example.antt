@@ -7,7 +7,7 @@ use Rattle.rules.specs.Refusals.{no_fault, fault_of, or_next, first_of, procs_fa
 use Rattle.rules.specs.Refusals.{in_order, last_before, release_fault, absent_fault, room_fault, case_fault}
 use Rattle.rules.specs.Text.{same, up_to, past, has, line_return, line_of, after_line, field_of, after_field, all_digits, no_leading_zero}
 use Rattle.rules.specs.Text.{is_number, worth, lines_by, number_in, procs_word, policy_word, task_word, end_word, release_word}
-use Rattle.rules.specs.Policies.{edf, edf_cf, edf_word, policy_name, place_from, policy_of}
+use Rattle.rules.specs.Policies.{edf, edf_word, policy_name, place_from, policy_of}
 use Rattle.rules.specs.Reader.{one_number, two_numbers, three_numbers, policy_in, word_kind, fields_say, line_says, lines_of, may_follow, may_stop}
 use Rattle.rules.specs.Reader.{lines_fault, with_line, with_lines, case_with_default, case_in, length_fault, text_fault}
 use Rattle.rules.specs.Writer.{more_fields, line_text, policy_text}

@@ -3,14 +3,14 @@
 use mathlib.Core.Path.{◌≡◌, refl, sym, ap, ◌∙◌}
 use mathlib.Core.Bool.{Bool, true, false, ◌&&◌, ◌||◌, not, false≢true, true≢false}
 use mathlib.Core.List.{List, [], ◌∷◌, ◌++◌}
-use Prim.Native.Nat.{ℕ, zero, suc, ◌+◌, ◌≤◌, ◌<◌, ◌^◌}
+use Prim.Native.Nat.{ℕ, zero, suc, ◌+◌, ◌≤◌, ◌<◌}
 use native.Mathlib.Numerals.{add-one}
 use native.Mathlib.Decide.{dec_lt}
 use native.Mathlib.Omega.{arith}
-use lib.Dec.{eqb, leb, ltb}
+use lib.Dec.{eqb, ltb}
 use lib.ListN.{length, get_or, take, drop, take-append-drop, length-drop}
 use lib.Seq.{take-suc, take_all, take-add, get_or-drop}
-use borrow.Author.Tests.{eq-eqb, ne_eqb, eqb-true, eqb-false, le-leb, lt-leb, lt-ltb, le-ltb, ltb-true}
+use borrow.Author.Tests.{eq-eqb, ne_eqb, eqb-true, eqb-false, le-leb, lt-leb, lt-ltb, ltb-true}
 use Rattle.rules.specs.declared.Fault.{Fault}
 use Rattle.rules.specs.declared.Run.{Run}
 use Rattle.rules.specs.Words.{pick, tab}
@@ -39,7 +39,7 @@ use Rattle.slot.specs.Calm.{Ahead}
 use Rattle.traces.specs.Traces.{releases, due}
 use Rattle.traces.specs.Given.{orderly, rel_at, readied-same}
 use Rattle.traces.specs.NoneDue.{reached_next, none_now}
-use Rattle.feeds.specs.LineScan.{LineScan, unread, at_start, scan_all, Heard, heard_bad, heard, line_end}
+use Rattle.feeds.specs.LineScan.{LineScan, unread, at_start, scan_all, Heard, line_end}
 use Rattle.feeds.specs.Feed.{Feed, feed_of, opening, formed_heard, names_heard, set_heard, heard_fault, closed, feed_byte, feed, fed_fault}
 use Rattle.feeds.specs.Feed.{feed-append, feed-within, fed_fault_lem, byte_stays}
 use Rattle.feeds.specs.Bounds.{LineSmall, FeedSmall, feed_small, opening_small, past_fault}

@@ -1,14 +1,14 @@
 -- One byte more of a line: the steps of `field_byte`, `at_return` and `line_end` (feeds, LineScan) as the code takes them, and the set as it
 -- stands in an array.
 use mathlib.Core.Path.{◌≡◌, refl, sym, ap, ◌∙◌, fun_ext}
-use mathlib.Core.Bool.{Bool, true, false, ◌&&◌, ◌||◌, not, or-true, or-false, and-false, true≢false}
-use mathlib.Core.List.{List, [], ◌∷◌}
+use mathlib.Core.Bool.{Bool, true, false, ◌&&◌, or-true, or-false, and-false, true≢false}
+use mathlib.Core.List.{List, []}
 use Prim.Native.Nat.{ℕ, zero, suc, ◌+◌, ◌*◌, ◌-◌, ◌^◌, ◌≤◌, ◌<◌}
 use native.Mathlib.Nat.{pow-le-pow_right}
 use native.Mathlib.Numerals.{add-one}
 use native.Mathlib.Decide.{dec_lt}
 use native.Mathlib.Omega.{arith}
-use lib.Dec.{eqb, leb, ltb}
+use lib.Dec.{eqb, leb}
 use lib.ListN.{length, get_or, set, drop}
 use lib.Seq.{get_or-set_same}
 use borrow.Author.Rules.{read_below, read_above}
@@ -20,8 +20,8 @@ use Rattle.rules.specs.Slot.{TaskSet}
 use Rattle.rules.specs.Text.{return_byte, tab_byte, is_digit}
 use Rattle.rules.specs.Log.{slot_word, set_named}
 use Rattle.lists.specs.Tests.{and_left, and_right}
-use Rattle.feeds.specs.NumScan.{NumScan, num_bad, num_so_far, fits, num_byte, num_end}
-use Rattle.feeds.specs.LineScan.{LineScan, unread, wrong, in_word, in_time, in_task, returned, is_name, with_name, time_at, task_at, after_time}
+use Rattle.feeds.specs.NumScan.{num_so_far, fits, num_byte, num_end}
+use Rattle.feeds.specs.LineScan.{LineScan, wrong, in_time, in_task, is_name, with_name, after_time}
 use Rattle.feeds.specs.LineScan.{after_task, word_tab, word_byte, field_byte, Heard, heard_bad, heard, heard_time, heard_task, line_end, at_start}
 use Rattle.feeds.specs.LineScan.{after_return, at_return, scan_byte}
 use Rattle.feeds.specs.Bounds.{NumSmall, LineSmall}

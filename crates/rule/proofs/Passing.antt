@@ -11,10 +11,8 @@ use lib.Dec.{eqb, ltb}
 use borrow.Author.Tests.{eq-eqb, ne_eqb, lt-ltb, le-ltb}
 use Rattle.rules.specs.Words.{pick, bit, sum, count_in, holds_below}
 use Rattle.rules.specs.Limits.{max_tasks}
-use Rattle.rules.specs.Slot.{Setup, TaskSet, job_at, is_present, due_of, kind, present, jobs_now}
+use Rattle.rules.specs.Slot.{Setup, TaskSet, job_at, is_present, due_of, present, jobs_now}
 use Rattle.rules.specs.Log.{sooner, wronged, keeps_rule}
-use Rattle.rules.specs.declared.Job.{Job}
-use Rattle.rules.specs.declared.Job.TheVariants.{Idle, Normal, Demoted}
 use Rattle.rules.specs.declared.Run.{Run}
 use Rattle.lists.specs.Sums.{count_le}
 use Rattle.lists.specs.Holds.{holds_says, holds_same}

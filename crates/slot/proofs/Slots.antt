@@ -6,7 +6,7 @@ use Prim.Native.Nat.{ℕ, ◌<◌}
 use native.Mathlib.Omega.{arith}
 use lib.Dec.{leb, ltb}
 use lib.ListN.{get_or}
-use Rattle.rules.specs.Words.{pick, bit, tab}
+use Rattle.rules.specs.Words.{pick, bit}
 use Rattle.rules.specs.Limits.{max_tasks}
 use Rattle.rules.specs.Policies.{demoting}
 use Rattle.rules.specs.Slot.{Setup, setup_of, TaskSet, no_task, run_of, with_job, job_at, left_of, present, each_task}

@@ -1,6 +1,6 @@
 -- Texts cut at a byte (`up_to`, `past`, `has` of rules, Text): what stands before the first of it and past it, and that the two and the
 -- byte make up the text. A line is its fields parted by single tabs, with a newline behind. For LinesOf, LineTrip and Lines.
-use Rattle.std.specs.Prelude.{◌≡◌, Bool, true, List, [], ◌∷◌, ◌++◌, ℕ, suc, ◌+◌, ◌≤◌, ◌<◌, eqb, length, get_or, take}
+use Rattle.std.specs.Prelude.{◌≡◌, Bool, true, List, [], ◌∷◌, ◌++◌, ℕ, suc, ◌≤◌, ◌<◌, eqb, length, get_or, take}
 use Rattle.std.proofs.Math.Path.{refl}
 use Rattle.std.proofs.Common.{sym, ap, ap₂, ◌∙◌, true≢false, append_assoc, arith, length-append, eq-eqb, ne_eqb, eqb-true}
 use Rattle.std.proofs.Math.Bool.{false}

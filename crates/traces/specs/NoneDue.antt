@@ -1,6 +1,6 @@
 -- A time at which no release is due, in a trace in order: nothing is released then, and the next time finds the trace as this one does.
 -- Cited by whoever leaves out steps of such a slot.
-use Rattle.std.specs.Prelude.{◌≡◌, true, false, ◌&&◌, ◌⊎◌, List, ℕ, suc, ◌≤◌, ◌<◌}
+use Rattle.std.specs.Prelude.{◌≡◌, false, ◌⊎◌, List, ℕ, suc, ◌≤◌, ◌<◌}
 use Rattle.std.proofs.Common.{sym, true≢false, inl, inr, eq-or-lt_of_le, arith, eq-eqb, lt-ltb}
 use Rattle.std.proofs.Math.Decide.{dec_le}
 use Rattle.rules.specs.Case.{release_count, time_of}

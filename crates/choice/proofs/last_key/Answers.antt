@@ -1,10 +1,5 @@
 -- `choice::last_key` meets its contract: each way through the pass, and what its end tells.
-use mathlib.Core.Path.{sym, ◌∙◌}
-use mathlib.Core.Logic.{⊎_elim}
-use Prim.Native.Nat.{◌-◌}
-use native.Mathlib.Omega.{arith}
-use Rattle.rules.specs.Limits.{max_tasks}
-use Rattle.choice.proofs.Passes.{Last, last_none, last_take, last_keep, last_idle, last_all}
+use Rattle.choice.proofs.Passes.{last_all}
 use Rattle.choice.proofs.last_key.Goals as goal
 
 pub returns : goal.returns

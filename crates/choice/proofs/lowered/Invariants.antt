@@ -1,7 +1,6 @@
 -- `choice::lowered` meets its contract: one key fewer below the bound with each scan.
 use mathlib.Core.Path.{◌≡◌}
 use Prim.Native.Nat.{◌+◌, ◌-◌, ◌≤◌}
-use native.Mathlib.Omega.{arith}
 use Rattle.choice.specs.Keys.{keys_below}
 use Rattle.choice.proofs.lowered.Given as goal
 

@@ -1,11 +1,7 @@
 -- `choice::mark_below` meets its contract: each task is marked and counted where its key is below the bound.
-use mathlib.Core.Path.{sym, ◌∙◌}
-use mathlib.Core.Logic.{⊎_elim}
 use Prim.Native.Nat.{◌-◌}
-use native.Mathlib.Omega.{arith}
 use Rattle.rules.specs.Limits.{max_tasks}
-use Rattle.rules.specs.Words.{tab}
-use Rattle.choice.proofs.Passes.{MarkedTo, marks_none, marks_few, marks_yes, marks_no, marks_idle, marks_all}
+use Rattle.choice.proofs.Passes.{MarkedTo}
 use Rattle.choice.proofs.mark_below.Given as goal
 
 abbrev pub invariant-loop-i : goal.invariant-loop-i

@@ -1,10 +1,7 @@
 -- `choice::next_key` meets its contract: each way through the pass, and what its end tells.
-use mathlib.Core.Path.{sym, ◌∙◌}
-use mathlib.Core.Logic.{⊎_elim}
 use Prim.Native.Nat.{◌-◌}
-use native.Mathlib.Omega.{arith}
 use Rattle.rules.specs.Limits.{max_tasks}
-use Rattle.choice.proofs.Passes.{Next, next_none, next_take, next_keep, next_idle, next_all}
+use Rattle.choice.proofs.Passes.{Next}
 use Rattle.choice.proofs.next_key.Given as goal
 
 abbrev pub invariant-loop-i : goal.invariant-loop-i

@@ -1,9 +1,7 @@
 -- `choice::raised` meets its contract: one key more below the bound with each scan.
 use mathlib.Core.Path.{◌≡◌}
 use Prim.Native.Nat.{◌+◌, ◌-◌, ◌≤◌}
-use native.Mathlib.Omega.{arith}
 use Rattle.choice.specs.Keys.{keys_below}
-use Rattle.choice.proofs.Keys.{keys_up}
 use Rattle.choice.proofs.raised.Given as goal
 
 abbrev pub invariant-loop-found : goal.invariant-loop-found

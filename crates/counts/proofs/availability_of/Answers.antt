@@ -2,8 +2,7 @@
 use Rattle.counts.proofs.Sums.{avail_small}
 use native.Mathlib.Omega.{arith}
 use mathlib.Core.Path.{ap}
-use Prim.Native.Nat.{◌+◌, ◌*◌, ◌/◌, ◌≤◌}
-use Rattle.rules.specs.Limits.{max_period}
+use Prim.Native.Nat.{◌+◌, ◌*◌, ◌/◌}
 use Rattle.rules.specs.Counts.{availability}
 use Rattle.counts.proofs.availability_of.Goals as goal
 

@@ -2,11 +2,10 @@
 use native.Mathlib.Omega.{arith}
 use mathlib.Core.List.{List}
 use mathlib.Core.Path.{◌≡◌, refl, ap, ◌∙◌}
-use Prim.Native.Nat.{ℕ, ◌-◌, ◌*◌, ◌≤◌}
+use Prim.Native.Nat.{ℕ}
 use Rattle.rules.specs.Words.{sum}
 use Rattle.rules.specs.Case.{task_count, period, deadline}
 use Rattle.rules.specs.Counts.{availability, availabilities}
-use Rattle.counts.specs.Needs.{max_availability}
 use Rattle.counts.proofs.Sums.{added, count_low, count_high}
 use Rattle.counts.proofs.count_of.Goals as goal
 

@@ -1,13 +1,10 @@
 -- `counts::count_of` meets its contract.
-use native.Mathlib.Omega.{arith}
-use mathlib.Core.List.{List}
-use mathlib.Core.Path.{◌≡◌, refl, ap, ◌∙◌}
-use Prim.Native.Nat.{ℕ, ◌-◌, ◌*◌, ◌≤◌}
+use mathlib.Core.Path.{◌≡◌}
+use Prim.Native.Nat.{◌-◌, ◌*◌, ◌≤◌}
 use Rattle.rules.specs.Words.{sum}
-use Rattle.rules.specs.Case.{task_count, period, deadline}
-use Rattle.rules.specs.Counts.{availability, availabilities}
+use Rattle.rules.specs.Case.{period, deadline}
+use Rattle.rules.specs.Counts.{availability}
 use Rattle.counts.specs.Needs.{max_availability}
-use Rattle.counts.proofs.Sums.{added, count_low, count_high}
 use Rattle.counts.proofs.count_of.Given as goal
 
 abbrev pub invariant-loop-i : goal.invariant-loop-i

@@ -1,6 +1,5 @@
 -- `counts::free_count` meets its contract.
 use mathlib.Core.Path.{ap, ◌∙◌}
-use native.Mathlib.Omega.{arith}
 use Rattle.rules.specs.Counts.{count, free_count}
 use Rattle.counts.proofs.free_count.Goals as goal
 

@@ -1,12 +1,7 @@
 -- `counts::put_counts` meets its contract: the loop lays the free counts over what the slice held.
-use mathlib.Core.Path.{◌≡◌}
-use mathlib.Core.List.{List}
-use Prim.Native.Nat.{ℕ, ◌-◌, ◌≤◌, ◌<◌}
-use native.Mathlib.Omega.{arith}
-use lib.ListN.{length}
-use Rattle.rules.specs.Case.{task_count}
+use Prim.Native.Nat.{◌-◌, ◌≤◌}
 use Rattle.rules.specs.Counts.{free_count}
-use Rattle.lists.specs.Fill.{Laying, laying_none, laying_long, laying_store}
+use Rattle.lists.specs.Fill.{Laying}
 use Rattle.counts.proofs.put_counts.Given as goal
 
 abbrev pub invariant-loop-i : goal.invariant-loop-i

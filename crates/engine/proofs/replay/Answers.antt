@@ -1,8 +1,5 @@
 -- `engine::replay` meets its contract: a refusal leaves the room, else the records are in it and the totals are theirs.
 use mathlib.Core.Path.{ap, ◌∙◌}
-use Prim.Native.Nat.{◌*◌, ◌≤◌}
-use lib.ListN.{length}
-use Rattle.rules.specs.Limits.{max_releases, record_width}
 use Rattle.rules.specs.Answers.{result}
 use Rattle.rules.specs.Calls.{replay_answer, replay_room}
 use Rattle.legal.specs.Legal.{legal, replay_clear}
@@ -17,7 +14,7 @@ returns-then-number-ne0 c =
     record { answer = refuses _ _ e _ c.if-number-ne0.true; left = leaves _ _ e _ _ c.if-number-ne0.true }
 
 pub replay_run-requires : goal.replay_run-requires
-replay_run-requires c = 
+replay_run-requires c =
     let w = replay_clear _ _ (clear _ _ c.replay_fault-f.ensures c.if-number-ne0.false) in record { accepted = w.0; record_width_in_bounds = w.1 }
 
 pub marked_in-met-requires : goal.marked_in-met-requires

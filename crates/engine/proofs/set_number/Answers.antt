@@ -1,12 +1,9 @@
 -- `engine::set_number` meets its contract.
 use mathlib.Core.Path.{◌≡◌}
-use mathlib.Core.Bool.{false}
-use Prim.Native.Nat.{◌-◌}
 use native.Mathlib.Omega.{arith}
-use lib.ListN.{get_or}
 use Rattle.rules.specs.Limits.{max_tasks}
 use Rattle.rules.specs.Slot.{set_number}
-use Rattle.engine.proofs.Powers.{Doubling, doubling_none, doubling_yes, doubling_no}
+use Rattle.engine.proofs.Powers.{doubling_none, doubling_yes, doubling_no}
 use Rattle.engine.proofs.set_number.Goals as goal
 use Rattle.engine.proofs.set_number.Goals.{else-set-i, then-set-i}
 

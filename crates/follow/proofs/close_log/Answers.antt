@@ -1,8 +1,6 @@
 -- `follow::close_log` meets its contract.
-use mathlib.Core.Path.{◌≡◌, sym, ◌∙◌}
-use native.Mathlib.Omega.{arith}
-use Rattle.lists.specs.Tests.{not_is}
-use Rattle.follow.proofs.Following.{not_left, over_fault, over_unended, over_number, over_none}
+use mathlib.Core.Path.{sym, ◌∙◌}
+use Rattle.follow.proofs.Following.{over_fault, over_unended, over_number, over_none}
 use Rattle.follow.proofs.close_log.Goals as goal
 
 pub returns-then-number-ne0 : goal.returns-then-number-ne0

@@ -1,5 +1,4 @@
 -- `follow::open_at` meets its contract.
-use lib.ListN.{length-map}
 use Rattle.rules.specs.Case.{case_of}
 use Rattle.legal.specs.Legal.{legal}
 use Rattle.traces.specs.Given.{orderly, needed}
@@ -7,7 +6,7 @@ use Rattle.follow.proofs.Following.{opens-settled}
 use Rattle.follow.proofs.open_at.Goals as goal
 
 pub take_releases-requires : goal.take_releases-requires
-take_releases-requires c =  let q = c.requires in record { orderly = orderly _ (legal _ q.accepted); reached = q.reached }
+take_releases-requires c = let q = c.requires in record { orderly = orderly _ (legal _ q.accepted); reached = q.reached }
 
 pub open_run-requires : goal.open_run-requires
 open_run-requires c =

@@ -1,6 +1,5 @@
 -- `heard::after_field` meets its contract.
-use mathlib.Core.Path.{◌∙◌}
-use Rattle.heard.proofs.Scanning.{small_value, after_bad, after_slot}
+use Rattle.heard.proofs.Scanning.{after_bad, after_slot}
 use Rattle.heard.proofs.after_field.Goals as goal
 
 pub returns-in_default : goal.returns-in_default

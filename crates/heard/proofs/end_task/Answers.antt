@@ -1,5 +1,5 @@
 -- `heard::end_task` meets its contract.
-use mathlib.Core.Path.{sym, ap, ◌∙◌}
+use mathlib.Core.Path.{sym, ap}
 use Rattle.lists.specs.Lists.{members}
 use Rattle.feeds.specs.LineScan.{heard_task}
 use Rattle.heard.proofs.Scanning.{num_none, num_some}

@@ -1,13 +1,10 @@
 -- `heard::number_byte` meets its contract.
-use mathlib.Core.Path.{sym, ap, ◌∙◌}
-use Prim.Native.Nat.{ℕ}
-use Rattle.feeds.specs.LineScan.{field_byte}
-use Rattle.heard.specs.Scans.{scan_as}
+use mathlib.Core.Path.{sym, ◌∙◌}
 use Rattle.heard.proofs.Scanning.{fits_digit, small_worth, digit_more, number_wrong}
 use Rattle.heard.proofs.number_byte.Goals as goal
 
 pub with_digit-longer-requires : goal.with_digit-longer-requires
-with_digit-longer-requires c = 
+with_digit-longer-requires c =
     let s = c.args.s in
     let d = fits_digit s.digits s.value c.args.b (sym c.fits.ensures ∙ c.if-fits.true) in record { value_bound = small_worth s.digits s.value c.requires.in_number.small d.1; le_b = d.0 }
 

@@ -1,10 +1,8 @@
 -- `heard::scan_byte` meets its contract.
-use mathlib.Core.Path.{sym, ap, ◌∙◌}
-use Prim.Native.Nat.{ℕ, ◌≤◌}
+use mathlib.Core.Path.{◌∙◌}
 use native.Mathlib.Omega.{arith}
-use Rattle.feeds.specs.LineScan.{scan_byte}
 use Rattle.heard.specs.Scans.{scan_as}
-use Rattle.heard.proofs.Scanning.{small_number, not_first, wrong_on, scan_other}
+use Rattle.heard.proofs.Scanning.{wrong_on, scan_other}
 use Rattle.heard.proofs.scan_byte.Goals as goal
 
 pub returns-then-phase-eq-WORD : goal.returns-then-phase-eq-WORD

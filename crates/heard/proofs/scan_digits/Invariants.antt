@@ -1,17 +1,13 @@
 -- `heard::scan_digits` meets its contract.
-use mathlib.Core.Path.{◌≡◌, sym, ◌∙◌}
-use mathlib.Core.Bool.{Bool, true}
+use mathlib.Core.Bool.{Bool}
 use mathlib.Core.List.{List}
-use Prim.Native.Nat.{◌-◌, ◌<◌}
-use native.Mathlib.Omega.{arith}
-use lib.ListN.{length, get_or}
+use Prim.Native.Nat.{◌-◌}
+use lib.ListN.{length}
 use Rattle.lists.specs.Lists.{members}
-use Rattle.feeds.specs.NumScan.{num_so_far, fits}
+use Rattle.feeds.specs.NumScan.{num_so_far}
 use Rattle.feeds.specs.Bounds.{NumSmall}
 use Rattle.heard.specs.Scans.{scan_as, phase_as}
 use Rattle.heard.specs.Lines.{Goes}
-use Rattle.heard.proofs.Scanning.{fits_digit, small_worth}
-use Rattle.heard.proofs.Going.{line_digit, goes_none, goes_both, goes_digit, small_digit}
 use Rattle.heard.proofs.scan_digits.Given as goal
 
 abbrev pub invariant-loop-value : goal.invariant-loop-value

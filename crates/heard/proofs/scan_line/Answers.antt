@@ -1,14 +1,12 @@
 -- `heard::scan_line` meets its contract.
 use mathlib.Core.Path.{◌≡◌, sym, ◌∙◌}
-use Prim.Native.Nat.{◌+◌, ◌-◌, ◌<◌}
-use native.Mathlib.Omega.{arith}
+use Prim.Native.Nat.{◌+◌, ◌<◌}
 use lib.ListN.{length, get_or}
-use Rattle.rules.specs.Limits.{max_tasks}
 use Rattle.rules.specs.Text.{newline_byte}
 use Rattle.heard.specs.Scans.{scan_as}
 use Rattle.heard.specs.Lines.{Goes}
 use Rattle.heard.proofs.Scanning.{small_number}
-use Rattle.heard.proofs.Going.{line_byte, goes_none, goes_both, goes_byte, goes_all}
+use Rattle.heard.proofs.Going.{line_byte, goes_both, goes_byte, goes_all}
 use Rattle.heard.proofs.scan_line.Goals as goal
 
 pub scan_number-scan-requires : goal.scan_number-scan-requires
@@ -23,8 +21,11 @@ scan_number-scan-requires c =
     rw c.scan_byte-scan.ensures.1
     (goes_both l.invariant.1 (goes_byte a.piece.now l.i (scan_as l.scan l.named) b.0 b.1)) in
     let r = c.scan_byte-scan.result in
-    let g = heard in record { number_small = λ from to. small_number r.phase r.digits r.value r.time r.low r.rises r.names _ from to
-          (g.small c.requires.line_small); from_in_bounds = g.within }
+    let g = heard in record {
+      number_small = λ from to. small_number r.phase r.digits r.value r.time r.low r.rises r.names _ from to
+          (g.small c.requires.line_small);
+      from_in_bounds = g.within;
+    }
 
 pub loop-named-preserved : goal.loop-named-preserved
 loop-named-preserved c =

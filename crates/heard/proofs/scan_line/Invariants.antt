@@ -1,14 +1,10 @@
 -- `heard::scan_line` meets its contract.
-use mathlib.Core.Path.{◌≡◌, sym, ◌∙◌}
-use Prim.Native.Nat.{◌+◌, ◌-◌, ◌<◌}
-use native.Mathlib.Omega.{arith}
-use lib.ListN.{length, get_or}
+use mathlib.Core.Path.{◌≡◌}
+use Prim.Native.Nat.{◌-◌}
+use lib.ListN.{length}
 use Rattle.rules.specs.Limits.{max_tasks}
-use Rattle.rules.specs.Text.{newline_byte}
 use Rattle.heard.specs.Scans.{scan_as}
 use Rattle.heard.specs.Lines.{Goes}
-use Rattle.heard.proofs.Scanning.{small_number}
-use Rattle.heard.proofs.Going.{line_byte, goes_none, goes_both, goes_byte, goes_all}
 use Rattle.heard.proofs.scan_line.Given as goal
 
 abbrev pub invariant-loop-named : goal.invariant-loop-named

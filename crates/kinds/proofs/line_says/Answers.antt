@@ -1,6 +1,5 @@
 -- `kinds::line_says` meets its contract.
 use mathlib.Core.Path.{ap, ap₂, ◌∙◌}
-use lib.ListN.{length}
 use Rattle.rules.specs.Reader.{word_kind, fields_say, line_says}
 use Rattle.kinds.proofs.Opening.{fields_open}
 use Rattle.kinds.proofs.line_says.Goals as goal

@@ -1,6 +1,5 @@
 -- `kinds::release_fields` meets its contract.
 use mathlib.Core.Path.{◌≡◌, sym, ap, ◌∙◌}
-use lib.ListN.{length}
 use Rattle.rules.specs.declared.Num.TheVariants.{Value}
 use Rattle.rules.specs.Text.{number_in, field_of}
 use Rattle.rules.specs.Reader.{two_numbers, one_number}

@@ -1,7 +1,5 @@
 -- `kinds::starts_release` meets its contract.
 use mathlib.Core.Path.{sym, ◌∙◌}
-use mathlib.Core.Bool.{false≢true}
-use native.Mathlib.Omega.{arith}
 use Rattle.kinds.proofs.Opening.{starts}
 use borrow.Author.Rules.{rules}
 use Rattle.kinds.proofs.starts_release.Goals as goal

@@ -2,7 +2,6 @@
 use mathlib.Core.Path.{◌≡◌, sym, ap, ◌∙◌}
 use mathlib.Core.List.{List}
 use Prim.Native.Nat.{ℕ}
-use lib.ListN.{length}
 use Rattle.rules.specs.declared.Num.TheVariants.{Value}
 use Rattle.rules.specs.Text.{number_in, field_of, after_field}
 use Rattle.rules.specs.Reader.{three_numbers, two_numbers, one_number}

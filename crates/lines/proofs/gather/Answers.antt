@@ -1,5 +1,5 @@
 -- `lines::gather` meets its contract: a line of the head is at fault, or the release lines decide.
-use Rattle.lines.proofs.Gathering.{gathers_none, gathers_all}
+use Rattle.lines.proofs.Gathering.{gathers_all}
 use Rattle.lines.proofs.gather.Goals as goal
 
 pub returns : goal.returns

@@ -1,7 +1,6 @@
 -- `lines::keep_release` meets its contract.
 use mathlib.Core.Path.{ap}
 use native.Mathlib.Omega.{arith}
-use lib.ListN.{length-set}
 use Rattle.lines.proofs.Stores.{adds_none, adds_past, adds_two, not_release}
 use Rattle.lines.specs.Held.{release_numbers}
 use Rattle.lines.proofs.keep_release.Goals as goal

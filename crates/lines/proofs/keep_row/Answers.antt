@@ -1,7 +1,6 @@
 -- `lines::keep_row` meets its contract.
 use mathlib.Core.Path.{ap}
 use native.Mathlib.Omega.{arith}
-use lib.ListN.{length-set}
 use Rattle.lines.proofs.Stores.{adds_none, adds_past, adds_three, not_row}
 use Rattle.lines.specs.Held.{row_numbers}
 use Rattle.lines.proofs.keep_row.Goals as goal

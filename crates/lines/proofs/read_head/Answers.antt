@@ -1,10 +1,6 @@
 -- `lines::read_head` meets its contract: before each turn the lines read so far stand in the head and nothing is at fault with them.
-use mathlib.Core.Path.{◌≡◌, sym, ap, ◌∙◌}
-use Prim.Native.Nat.{◌-◌}
-use native.Mathlib.Omega.{arith}
-use lib.ListN.{length}
+use mathlib.Core.Path.{ap}
 use Rattle.lines.specs.declared.HeadRead.{HeadRead}
-use Rattle.lines.specs.Gathers.{InHead}
 use Rattle.lines.proofs.Heading.{head_none}
 use Rattle.lines.proofs.read_head.Goals as goal
 

@@ -1,11 +1,8 @@
 -- `lines::read_head` meets its contract: before each turn the lines read so far stand in the head and nothing is at fault with them.
-use mathlib.Core.Path.{◌≡◌, sym, ap, ◌∙◌}
+use mathlib.Core.Path.{◌≡◌}
 use Prim.Native.Nat.{◌-◌}
-use native.Mathlib.Omega.{arith}
 use lib.ListN.{length}
-use Rattle.lines.specs.declared.HeadRead.{HeadRead}
 use Rattle.lines.specs.Gathers.{InHead}
-use Rattle.lines.proofs.Heading.{head_none}
 use Rattle.lines.proofs.read_head.Given as goal
 
 abbrev pub invariant-loop-top : goal.invariant-loop-top

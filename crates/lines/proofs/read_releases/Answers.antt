@@ -1,9 +1,5 @@
 -- `lines::read_releases` meets its contract.
-use mathlib.Core.Path.{sym, ◌∙◌}
-use Prim.Native.Nat.{◌-◌}
-use native.Mathlib.Omega.{arith}
-use lib.ListN.{length}
-use Rattle.lines.proofs.Releasing.{Releasing, releasing_none, releasing_stop, releasing_on, releasing_all}
+use Rattle.lines.proofs.Releasing.{releasing_stop, releasing_on, releasing_all}
 use Rattle.lines.proofs.read_releases.Goals as goal
 
 pub returns-then-first-ne0 : goal.returns-then-first-ne0

@@ -1,9 +1,7 @@
 -- `lines::read_releases` meets its contract.
-use mathlib.Core.Path.{sym, ◌∙◌}
 use Prim.Native.Nat.{◌-◌}
-use native.Mathlib.Omega.{arith}
 use lib.ListN.{length}
-use Rattle.lines.proofs.Releasing.{Releasing, releasing_none, releasing_stop, releasing_on, releasing_all}
+use Rattle.lines.proofs.Releasing.{Releasing}
 use Rattle.lines.proofs.read_releases.Given as goal
 
 abbrev pub invariant-loop-next : goal.invariant-loop-next

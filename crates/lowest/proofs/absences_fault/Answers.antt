@@ -1,9 +1,7 @@
 -- `lowest::absences_fault` meets its contract.
-use Prim.Native.Nat.{◌-◌, ◌≤◌, ◌<◌}
-use mathlib.Core.Path.{◌≡◌, ap, ap₂, sym, ◌∙◌}
+use mathlib.Core.Path.{ap₂, sym, ◌∙◌}
 use native.Mathlib.Omega.{arith}
-use Rattle.rules.specs.Case.{task_count}
-use Rattle.rules.specs.Refusals.{or_next, first_of}
+use Rattle.rules.specs.Refusals.{or_next}
 use Rattle.legal.specs.Firsts.{none_yet, first_more}
 use Rattle.lowest.specs.Needs.{unkept_fault}
 use Rattle.lowest.proofs.absences_fault.Goals as goal

@@ -1,12 +1,11 @@
 -- `lowest::releases_fault` meets its contract.
-use Prim.Native.Nat.{◌-◌, ◌≤◌, ◌<◌}
-use mathlib.Core.Path.{◌≡◌}
+use Prim.Native.Nat.{◌≤◌, ◌<◌}
 use native.Mathlib.Omega.{arith}
 use Rattle.rules.specs.Words.{tab}
 use Rattle.rules.specs.Limits.{max_tasks, max_end}
 use Rattle.rules.specs.Case.{release_count, time_of, name_of}
 use Rattle.rules.specs.Refusals.{last_before}
-use Rattle.lowest.proofs.Walk.{Checked, passed, checked_none, checked_more, checked_hit, checked_all}
+use Rattle.lowest.proofs.Walk.{passed, checked_none, checked_more, checked_hit}
 use Rattle.lowest.proofs.releases_fault.Goals as goal
 
 pub loop-j-init : goal.loop-j-init
@@ -42,10 +41,9 @@ bounds-last-i c =
     omega (arith, stands, c.name_of.ensures)
 
 pub loop-j-preserved : goal.loop-j-preserved
-loop-j-preserved c =
-    (
-      omega arith,
-      rw (c.name_of.ensures, c.time_of-time.ensures)
-          (checked_more _ _ _ _ _ c.release_fault-found.ensures _ c.loop-j.invariant.1
-          c.requires.0.few c.requires.2 c.if-refused-ne0.false),
-    )
+loop-j-preserved c = (
+  omega arith,
+  rw (c.name_of.ensures, c.time_of-time.ensures)
+      (checked_more _ _ _ _ _ c.release_fault-found.ensures _ c.loop-j.invariant.1
+      c.requires.0.few c.requires.2 c.if-refused-ne0.false),
+)

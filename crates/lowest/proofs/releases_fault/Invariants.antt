@@ -1,12 +1,6 @@
 -- `lowest::releases_fault` meets its contract.
-use Prim.Native.Nat.{◌-◌, ◌≤◌, ◌<◌}
-use mathlib.Core.Path.{◌≡◌}
-use native.Mathlib.Omega.{arith}
-use Rattle.rules.specs.Words.{tab}
-use Rattle.rules.specs.Limits.{max_tasks, max_end}
-use Rattle.rules.specs.Case.{release_count, time_of, name_of}
-use Rattle.rules.specs.Refusals.{last_before}
-use Rattle.lowest.proofs.Walk.{Checked, passed, checked_none, checked_more, checked_hit, checked_all}
+use Prim.Native.Nat.{◌-◌, ◌≤◌}
+use Rattle.lowest.proofs.Walk.{Checked}
 use Rattle.lowest.proofs.releases_fault.Given as goal
 
 abbrev pub invariant-loop-j : goal.invariant-loop-j

@@ -1,9 +1,8 @@
 -- `lowest::tasks_fault` meets its contract.
-use Prim.Native.Nat.{◌-◌, ◌≤◌, ◌<◌}
-use mathlib.Core.Path.{◌≡◌, sym, ◌∙◌}
+use Prim.Native.Nat.{◌<◌}
+use mathlib.Core.Path.{sym}
 use native.Mathlib.Omega.{arith}
 use Rattle.rules.specs.Case.{task_count}
-use Rattle.rules.specs.Refusals.{no_fault, first_of, task_fault}
 use Rattle.legal.specs.Firsts.{none_yet, none_more, first_hit}
 use Rattle.legal.specs.Passing.{task_none}
 use Rattle.legal.specs.Settled.{clear}

@@ -1,12 +1,7 @@
 -- `lowest::tasks_fault` meets its contract.
-use Prim.Native.Nat.{◌-◌, ◌≤◌, ◌<◌}
-use mathlib.Core.Path.{◌≡◌, sym, ◌∙◌}
-use native.Mathlib.Omega.{arith}
-use Rattle.rules.specs.Case.{task_count}
+use Prim.Native.Nat.{◌-◌, ◌≤◌}
+use mathlib.Core.Path.{◌≡◌}
 use Rattle.rules.specs.Refusals.{no_fault, first_of, task_fault}
-use Rattle.legal.specs.Firsts.{none_yet, none_more, first_hit}
-use Rattle.legal.specs.Passing.{task_none}
-use Rattle.legal.specs.Settled.{clear}
 use Rattle.lowest.proofs.tasks_fault.Given as goal
 
 abbrev pub invariant-loop-i : goal.invariant-loop-i

@@ -1,12 +1,9 @@
 -- `notes::any_event` meets its contract.
-use mathlib.Core.Path.{◌≡◌, sym, ◌∙◌}
-use mathlib.Core.Bool.{false, true≢false}
-use mathlib.Core.Logic.{⊎_elim}
+use mathlib.Core.Path.{◌≡◌}
+use mathlib.Core.Bool.{false}
 use Prim.Native.Nat.{◌-◌, ◌≤◌}
-use native.Mathlib.Omega.{arith}
 use Rattle.rules.specs.Limits.{max_tasks}
 use Rattle.notes.specs.Noted.{Uneventful}
-use Rattle.notes.proofs.Room.{uneventful_more}
 use Rattle.notes.proofs.any_event.Given as goal
 
 abbrev pub invariant-loop-i : goal.invariant-loop-i

@@ -1,14 +1,10 @@
 -- `notes::marked_in` meets its contract.
-use native.Mathlib.Omega.{arith}
-use mathlib.Core.Path.{◌≡◌, refl}
+use mathlib.Core.Path.{◌≡◌}
 use Prim.Native.Nat.{◌-◌, ◌*◌, ◌≤◌}
 use lib.ListN.{get_or}
-use borrow.Author.Tests.{eq-eqb, ne_eqb}
 use lib.Dec.{eqb}
-use mathlib.Core.Logic.{⊎_elim}
-use Rattle.rules.specs.Words.{count_in, sum}
+use Rattle.rules.specs.Words.{count_in}
 use Rattle.rules.specs.Limits.{record_width}
-use Rattle.notes.proofs.Room.{tally_yes, tally_no}
 use Rattle.notes.proofs.marked_in.Given as goal
 
 abbrev pub invariant-loop-j : goal.invariant-loop-j

@@ -1,12 +1,9 @@
 -- `notes::note_all` meets its contract: what a slot stores, task by task.
-use mathlib.Core.Path.{◌≡◌, refl, ap, sym, ◌∙◌}
-use mathlib.Core.Logic.{⊎_elim}
+use mathlib.Core.Path.{◌≡◌}
 use Prim.Native.Nat.{◌-◌, ◌≤◌}
-use native.Mathlib.Omega.{arith}
 use lib.ListN.{length}
 use Rattle.rules.specs.Limits.{max_tasks}
 use Rattle.bridge.specs.Notes.{note_to}
-use Rattle.notes.proofs.Room.{note_yes, note_no, put3_long}
 use Rattle.notes.proofs.note_all.Given as goal
 
 abbrev pub invariant-loop-i : goal.invariant-loop-i

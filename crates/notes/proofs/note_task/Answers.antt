@@ -1,6 +1,4 @@
 -- `notes::note_task` meets its contract: three stores are a record's store.
-use native.Mathlib.Omega.{arith}
-use lib.ListN.{length-set}
 use Rattle.notes.proofs.Room.{stores}
 use Rattle.notes.proofs.note_task.Goals as goal
 

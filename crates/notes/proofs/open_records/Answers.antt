@@ -1,13 +1,9 @@
 -- `notes::open_records` meets its contract.
 use native.Mathlib.Omega.{arith}
-use mathlib.Core.Path.{◌≡◌, refl}
-use Prim.Native.Nat.{◌+◌, ◌-◌, ◌*◌, ◌≤◌}
-use lib.ListN.{length, drop, length-set}
-use mathlib.Core.List.{◌++◌}
+use mathlib.Core.Path.{refl}
+use lib.ListN.{length-set}
 use Rattle.rules.specs.Words.{tab}
-use Rattle.rules.specs.Limits.{record_width}
 use Rattle.rules.specs.Replay.{numbers}
-use Rattle.notes.specs.Noted.{open_record}
 use Rattle.notes.proofs.Room.{open_next}
 use Rattle.notes.proofs.open_records.Goals as goal
 

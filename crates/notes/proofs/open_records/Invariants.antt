@@ -1,14 +1,12 @@
 -- `notes::open_records` meets its contract.
-use native.Mathlib.Omega.{arith}
-use mathlib.Core.Path.{◌≡◌, refl}
-use Prim.Native.Nat.{◌+◌, ◌-◌, ◌*◌, ◌≤◌}
-use lib.ListN.{length, drop, length-set}
+use mathlib.Core.Path.{◌≡◌}
+use Prim.Native.Nat.{◌-◌, ◌*◌, ◌≤◌}
+use lib.ListN.{length, drop}
 use mathlib.Core.List.{◌++◌}
 use Rattle.rules.specs.Words.{tab}
 use Rattle.rules.specs.Limits.{record_width}
 use Rattle.rules.specs.Replay.{numbers}
 use Rattle.notes.specs.Noted.{open_record}
-use Rattle.notes.proofs.Room.{open_next}
 use Rattle.notes.proofs.open_records.Given as goal
 
 abbrev pub invariant-loop-j : goal.invariant-loop-j

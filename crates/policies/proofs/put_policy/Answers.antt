@@ -1,5 +1,5 @@
 -- `policies::put_policy` meets its contract: the byte, and behind it the word that the number chooses.
-use mathlib.Core.Path.{ap, ◌∙◌}
+use mathlib.Core.Path.{ap}
 use Prim.Native.Nat.{ℕ}
 use native.Mathlib.Omega.{arith}
 use lib.ListN.{length, length-set}

@@ -7,9 +7,9 @@ use Rattle.rules.specs.Replay.{record_of}
 use Rattle.rules.specs.Text.{newline_byte}
 use Rattle.rules.specs.Report.{space_byte, job_word}
 use Rattle.puts.specs.Fields.{word_of}
-use Rattle.puts.proofs.Puts.{laid_byte, laid_then, laid_length}
+use Rattle.puts.proofs.Puts.{laid_byte, laid_then}
 use Rattle.puts.proofs.Lines.{numbers_room}
-use Rattle.prints.specs.Lines.{field_room, outcome_room, job_room}
+use Rattle.prints.specs.Lines.{outcome_room, job_room}
 use Rattle.prints.proofs.Lines.{outcome_room_lem, job_is}
 use Rattle.prints.proofs.put_job.Goals as goal
 

@@ -1,11 +1,10 @@
 -- `prints::put_outcome` meets its contract: the verdict, the two times, one behind the other.
-use mathlib.Core.List.{◌∷◌}
 use Prim.Native.Nat.{◌+◌, ◌≤◌}
 use native.Mathlib.Omega.{arith}
 use lib.ListN.{length}
 use Rattle.rules.specs.Replay.{record_of}
 use Rattle.puts.proofs.Puts.{laid_then}
-use Rattle.prints.specs.Lines.{field_room, verdict_room, outcome_room}
+use Rattle.prints.specs.Lines.{verdict_room, outcome_room}
 use Rattle.prints.proofs.Lines.{verdict_room_lem, finish_room, outcome_is}
 use Rattle.prints.proofs.put_outcome.Goals as goal
 

@@ -7,7 +7,7 @@ use Rattle.rules.specs.Text.{newline_byte, digits_of}
 use Rattle.rules.specs.Writer.{line_text, more_fields}
 use Rattle.rules.specs.Report.{space_byte}
 use Rattle.puts.specs.Fields.{word_of}
-use Rattle.puts.proofs.Puts.{laid_byte, laid_then, laid_length}
+use Rattle.puts.proofs.Puts.{laid_byte, laid_then}
 use Rattle.puts.proofs.Chosen.{word_short}
 use Rattle.puts.proofs.Lines.{fields_then, numbers_room}
 use Rattle.texts.specs.PolicyNames.{name_short}

@@ -1,9 +1,6 @@
 -- `puts::put_bytes` meets its contract: the bytes passed are stored.
-use Prim.Native.Nat.{◌-◌, ◌≤◌}
-use mathlib.Core.Path.{◌≡◌, refl, ap, ◌∙◌}
 use native.Mathlib.Omega.{arith}
-use lib.ListN.{length, take, length-set}
-use lib.Seq.{sets, take_all}
+use lib.ListN.{length-set}
 use Rattle.puts.proofs.Puts.{sets_suc}
 use Rattle.puts.proofs.put_bytes.Goals as goal
 

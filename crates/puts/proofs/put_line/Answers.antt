@@ -5,7 +5,7 @@ use native.Mathlib.Omega.{arith}
 use lib.ListN.{length}
 use Rattle.rules.specs.Text.{digits_of}
 use Rattle.puts.specs.Fields.{number_fields, word_of}
-use Rattle.puts.proofs.Puts.{laid_byte, laid_then, laid_length}
+use Rattle.puts.proofs.Puts.{laid_byte, laid_then}
 use Rattle.puts.proofs.Lines.{line_end_lem, line_length}
 use Rattle.puts.proofs.put_line.Goals as goal
 use Rattle.puts.proofs.put_line.Goals.{After-slice_known-3-1, Start}

@@ -1,10 +1,8 @@
 -- `puts::put_number` meets its contract: storing the digits of what is left gives the digits of v stored.
-use Prim.Native.Nat.{ℕ, ◌+◌, ◌≤◌}
-use mathlib.Core.Path.{◌≡◌, refl, sym, ap, ◌∙◌}
+use Prim.Native.Nat.{ℕ, ◌+◌}
+use mathlib.Core.Path.{sym, ap, ◌∙◌}
 use native.Mathlib.Omega.{arith}
 use lib.ListN.{length, length-set}
-use lib.Seq.{sets}
-use Rattle.rules.specs.Text.{digits_of}
 use Rattle.texts.specs.Digits.{digits_small}
 use Rattle.puts.proofs.Digits.{step_length}
 use Rattle.puts.proofs.Puts.{store_digit}

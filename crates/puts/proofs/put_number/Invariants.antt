@@ -1,13 +1,9 @@
 -- `puts::put_number` meets its contract: storing the digits of what is left gives the digits of v stored.
-use Prim.Native.Nat.{ℕ, ◌+◌, ◌≤◌}
-use mathlib.Core.Path.{◌≡◌, refl, sym, ap, ◌∙◌}
-use native.Mathlib.Omega.{arith}
-use lib.ListN.{length, length-set}
+use Prim.Native.Nat.{◌+◌, ◌≤◌}
+use mathlib.Core.Path.{◌≡◌}
+use lib.ListN.{length}
 use lib.Seq.{sets}
 use Rattle.rules.specs.Text.{digits_of}
-use Rattle.texts.specs.Digits.{digits_small}
-use Rattle.puts.proofs.Digits.{step_length}
-use Rattle.puts.proofs.Puts.{store_digit}
 use Rattle.puts.proofs.put_number.Given as goal
 
 abbrev pub invariant-loop-w : goal.invariant-loop-w

@@ -1,12 +1,10 @@
 -- `puts::put_numbers` meets its contract: the numbers passed are laid as fields.
-use Prim.Native.Nat.{◌+◌, ◌-◌, ◌≤◌}
-use mathlib.Core.Path.{◌≡◌, refl, ◌∙◌}
+use Prim.Native.Nat.{◌+◌, ◌≤◌}
+use mathlib.Core.Path.{refl, ◌∙◌}
 use native.Mathlib.Omega.{arith}
-use lib.ListN.{length, take, get_or, length-set}
-use lib.Seq.{take_all}
+use lib.ListN.{length, get_or, length-set}
 use Rattle.rules.specs.Text.{digits_of}
-use Rattle.puts.specs.Laid.{Laid}
-use Rattle.puts.specs.Fields.{fields_text, number_fields}
+use Rattle.puts.specs.Fields.{fields_text}
 use Rattle.puts.proofs.Puts.{laid_none, laid_byte, laid_then}
 use Rattle.puts.proofs.Lines.{numbers-suc, numbers_le}
 use Rattle.puts.proofs.put_numbers.Goals as goal

@@ -1,14 +1,9 @@
 -- `puts::put_numbers` meets its contract: the numbers passed are laid as fields.
-use Prim.Native.Nat.{◌+◌, ◌-◌, ◌≤◌}
-use mathlib.Core.Path.{◌≡◌, refl, ◌∙◌}
-use native.Mathlib.Omega.{arith}
-use lib.ListN.{length, take, get_or, length-set}
-use lib.Seq.{take_all}
-use Rattle.rules.specs.Text.{digits_of}
+use Prim.Native.Nat.{◌-◌, ◌≤◌}
+use mathlib.Core.Path.{◌≡◌}
+use lib.ListN.{length, take}
 use Rattle.puts.specs.Laid.{Laid}
-use Rattle.puts.specs.Fields.{fields_text, number_fields}
-use Rattle.puts.proofs.Puts.{laid_none, laid_byte, laid_then}
-use Rattle.puts.proofs.Lines.{numbers-suc, numbers_le}
+use Rattle.puts.specs.Fields.{number_fields}
 use Rattle.puts.proofs.put_numbers.Given as goal
 
 abbrev pub invariant-loop-i : goal.invariant-loop-i

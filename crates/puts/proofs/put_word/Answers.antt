@@ -1,10 +1,8 @@
 -- `puts::put_word` meets its contract: in each arm the word is known by the number.
-use mathlib.Core.Path.{◌≡◌, ap}
+use mathlib.Core.Path.{ap}
 use native.Mathlib.Omega.{arith}
 use lib.ListN.{length}
 use borrow.Author.Rules.{rules}
-use Rattle.rules.specs.Report.{run_word}
-use Rattle.puts.specs.Fields.{word_of}
 use Rattle.puts.proofs.Chosen.{word_room, word_laid, word_last}
 use Rattle.puts.proofs.put_word.Goals as goal
 

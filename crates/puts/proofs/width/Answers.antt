@@ -1,9 +1,7 @@
 -- `puts::width` meets its contract.
-use Prim.Native.Nat.{◌+◌, ◌≤◌}
-use mathlib.Core.Path.{◌≡◌, refl, ap}
+use mathlib.Core.Path.{ap}
 use native.Mathlib.Omega.{arith}
 use lib.ListN.{length}
-use Rattle.rules.specs.Text.{digits_of}
 use Rattle.texts.specs.Digits.{digits_small, at_most_ten}
 use Rattle.puts.proofs.Digits.{step_length}
 use Rattle.puts.proofs.width.Goals as goal

@@ -1,8 +1,5 @@
 -- `reader::put_numbers` meets its contract.
-use native.Mathlib.Omega.{arith}
-use Prim.Native.Nat.{◌-◌}
-use lib.ListN.{length}
-use Rattle.reader.proofs.Copies.{Copying, copying_none, copying_on, copying_all}
+use Rattle.reader.proofs.Copies.{copying_on}
 use Rattle.reader.proofs.put_numbers.Goals as goal
 
 pub loop-i-preserved : goal.loop-i-preserved

@@ -1,8 +1,7 @@
 -- `reader::put_numbers` meets its contract.
-use native.Mathlib.Omega.{arith}
 use Prim.Native.Nat.{◌-◌}
 use lib.ListN.{length}
-use Rattle.reader.proofs.Copies.{Copying, copying_none, copying_on, copying_all}
+use Rattle.reader.proofs.Copies.{Copying}
 use Rattle.reader.proofs.put_numbers.Given as goal
 
 abbrev pub invariant-loop-i : goal.invariant-loop-i

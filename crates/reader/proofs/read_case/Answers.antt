@@ -2,7 +2,6 @@
 use mathlib.Core.Path.{◌≡◌, sym, ap, ◌∙◌}
 use Rattle.rules.specs.declared.Fault.{Fault}
 use Rattle.rules.specs.Reader.{length_fault}
-use Rattle.texts.specs.Passing.{length_clear}
 use Rattle.reader.proofs.Kept.{reads_long, reads_line, reads_case}
 use Rattle.reader.proofs.read_case.Goals as goal
 

@@ -1,10 +1,6 @@
 -- `rule::all_run` meets its contract.
-use Prim.Native.Nat.{◌-◌}
-use Rattle.rules.specs.Limits.{max_tasks}
 use Rattle.rules.specs.Slot.{present}
-use Rattle.lists.specs.Lists.{members}
-use Rattle.rule.specs.NoneWait.{same_at}
-use Rattle.rule.proofs.Holding.{Holding, holding_none, holding_more, holding_all}
+use Rattle.rule.proofs.Holding.{holding_none, holding_more}
 use Rattle.rule.proofs.all_run.Goals as goal
 
 pub loop-i-init : goal.loop-i-init

@@ -4,7 +4,7 @@ use Rattle.rules.specs.Limits.{max_tasks}
 use Rattle.rules.specs.Slot.{present}
 use Rattle.lists.specs.Lists.{members}
 use Rattle.rule.specs.NoneWait.{same_at}
-use Rattle.rule.proofs.Holding.{Holding, holding_none, holding_more, holding_all}
+use Rattle.rule.proofs.Holding.{Holding}
 use Rattle.rule.proofs.all_run.Given as goal
 
 abbrev pub invariant-loop-i : goal.invariant-loop-i

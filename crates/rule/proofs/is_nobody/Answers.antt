@@ -1,10 +1,6 @@
 -- `rule::is_nobody` meets its contract.
 use mathlib.Core.Path.{refl}
-use Prim.Native.Nat.{◌-◌}
-use Rattle.rules.specs.Limits.{max_tasks}
-use Rattle.lists.specs.Lists.{members}
-use Rattle.rule.specs.NoneWait.{absent}
-use Rattle.rule.proofs.Holding.{Holding, holding_none, holding_more, holding_all}
+use Rattle.rule.proofs.Holding.{holding_none, holding_more}
 use Rattle.rule.proofs.is_nobody.Goals as goal
 
 pub loop-i-init : goal.loop-i-init

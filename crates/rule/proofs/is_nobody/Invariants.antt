@@ -1,10 +1,9 @@
 -- `rule::is_nobody` meets its contract.
-use mathlib.Core.Path.{refl}
 use Prim.Native.Nat.{◌-◌}
 use Rattle.rules.specs.Limits.{max_tasks}
 use Rattle.lists.specs.Lists.{members}
 use Rattle.rule.specs.NoneWait.{absent}
-use Rattle.rule.proofs.Holding.{Holding, holding_none, holding_more, holding_all}
+use Rattle.rule.proofs.Holding.{Holding}
 use Rattle.rule.proofs.is_nobody.Given as goal
 
 abbrev pub invariant-loop-i : goal.invariant-loop-i

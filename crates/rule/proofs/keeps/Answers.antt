@@ -1,12 +1,9 @@
 -- `rule::keeps` meets its contract: each way through the pass, and what its end tells.
 use mathlib.Core.Path.{sym, ◌∙◌}
-use Prim.Native.Nat.{◌-◌}
 use native.Mathlib.Omega.{arith}
-use Rattle.rules.specs.Limits.{max_tasks}
 use Rattle.rules.specs.Slot.{setup_of}
-use Rattle.lists.specs.Lists.{members}
 use Rattle.rule.specs.NoneWait.{none_waits}
-use Rattle.rule.proofs.Passing.{Passing, passing_none, passing_runs, passing_absent, passing_waits, passing_idle, passing_few}
+use Rattle.rule.proofs.Passing.{passing_none, passing_runs, passing_absent, passing_waits, passing_idle, passing_few}
 use Rattle.rule.proofs.Passing.{wrong_number, wrong_order, right_order}
 use Rattle.rule.proofs.keeps.Goals as goal
 use Rattle.rule.proofs.keeps.Goals.{then-named-i+then-there, then-named-i+else-there, else-named-i+then-there-2, else-named-i+else-there-2}
@@ -29,20 +26,20 @@ loop-i-preserved c =
     let k = c.loop-i-test.true in
     let e = c.has_job-there.ensures in
     elim c.if-named-i.branch [
-      then-named-i+then-there w ↦
-        let t = w.turn_of.ensures in
-        rw (w.count-is, w.all_there-is, w.waiting-is, w.running-is, w.greater-running.ensures)
-        (passing_runs _ _ _ _ _ _ _ _ _ k v _ w.if-named-i.true (sym e ∙ w.if-there.true) t.0 t.1)
-    | then-named-i+else-there w ↦
-        rw (w.count-is, w.all_there-is, w.waiting-is, w.running-is)
-        (passing_absent _ _ _ _ _ _ _ _ _ k v w.if-named-i.true (sym e ∙ w.if-there.false))
-    | else-named-i+then-there-2 w ↦
-        let t = w.turn_of-then-there-2.ensures in
-        rw (w.count-is, w.all_there-is, w.waiting-is, w.running-is, w.lesser-waiting.ensures)
-        (passing_waits _ _ _ _ _ _ _ _ _ k v _ w.if-named-i.false (sym e ∙ w.if-there-2.true) t.0 t.1)
-    | else-named-i+else-there-2 w ↦
-        rw (w.count-is, w.all_there-is, w.waiting-is, w.running-is)
-        (passing_idle _ _ _ _ _ _ _ _ _ k v w.if-named-i.false (sym e ∙ w.if-there-2.false))
+      | then-named-i+then-there w ↦
+          let t = w.turn_of.ensures in
+          rw (w.count-is, w.all_there-is, w.waiting-is, w.running-is, w.greater-running.ensures)
+          (passing_runs _ _ _ _ _ _ _ _ _ k v _ w.if-named-i.true (sym e ∙ w.if-there.true) t.0 t.1)
+      | then-named-i+else-there w ↦
+          rw (w.count-is, w.all_there-is, w.waiting-is, w.running-is)
+          (passing_absent _ _ _ _ _ _ _ _ _ k v w.if-named-i.true (sym e ∙ w.if-there.false))
+      | else-named-i+then-there-2 w ↦
+          let t = w.turn_of-then-there-2.ensures in
+          rw (w.count-is, w.all_there-is, w.waiting-is, w.running-is, w.lesser-waiting.ensures)
+          (passing_waits _ _ _ _ _ _ _ _ _ k v _ w.if-named-i.false (sym e ∙ w.if-there-2.true) t.0 t.1)
+      | else-named-i+else-there-2 w ↦
+          rw (w.count-is, w.all_there-is, w.waiting-is, w.running-is)
+          (passing_idle _ _ _ _ _ _ _ _ _ k v w.if-named-i.false (sym e ∙ w.if-there-2.false))
     ]
 
 pub returns-then-count-lesser : goal.returns-then-count-lesser

@@ -1,10 +1,9 @@
 -- `scan::line` meets its contract: it ends at its newline, which is within the slice, or at the return right before it.
 use mathlib.Core.Path.{sym, ◌∙◌}
-use Prim.Native.Nat.{◌<◌}
 use native.Mathlib.Omega.{arith}
-use lib.ListN.{length, length-drop, drop}
+use lib.ListN.{length-drop, drop}
 use Rattle.rules.specs.Text.{newline_byte}
-use Rattle.scan.proofs.Parts.{up_to_le, returned_bounds, part_returned, part_whole}
+use Rattle.scan.proofs.Parts.{up_to_le, part_returned, part_whole}
 use Rattle.scan.proofs.line.Goals as goal
 
 pub returns-then-is_returned : goal.returns-then-is_returned

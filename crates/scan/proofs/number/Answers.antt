@@ -1,10 +1,10 @@
 -- `scan::number` meets its contract.
-use Prim.Native.Nat.{ℕ, ◌+◌, ◌*◌, ◌-◌, ◌≤◌, ◌<◌, ◌^◌}
+use Prim.Native.Nat.{ℕ, ◌+◌, ◌*◌}
 use mathlib.Core.Path.{◌≡◌, refl, ap, sym, ◌∙◌}
 use mathlib.Core.Bool.{true}
 use native.Mathlib.Omega.{arith}
 use lib.ListN.{length, drop}
-use Rattle.rules.specs.Text.{no_leading_zero, all_digits, worth}
+use Rattle.rules.specs.Text.{no_leading_zero, worth}
 use Rattle.scan.proofs.Numbers.{bad_empty, bad_long, bad_front, bad_digit, good, front_short, front_good, front_zero, digits_low}
 use Rattle.scan.proofs.Numbers.{digits_high, digits_on, worth_on, digits_done, worth_done, below_on, below_small}
 use Rattle.scan.proofs.number.Goals as goal
@@ -22,10 +22,10 @@ returns-then-s-eq48 c = bad_front _ (front_zero _ c.if-n-gt1.true c.if-s-eq48.tr
 pub loop-i-init : goal.loop-i-init
 loop-i-init c =
     let front : no_leading_zero c.args.s.now ≡ true =
-        elim c.if-n-gt1.branch [
-          then-n-gt1+else-s-eq48 w ↦ front_good _ w.if-s-eq48.false
-        | else-n-gt1 w ↦ front_short _ w.if-n-gt1.false
-        ] in
+    elim c.if-n-gt1.branch [
+      | then-n-gt1+else-s-eq48 w ↦ front_good _ w.if-s-eq48.false
+      | else-n-gt1 w ↦ front_short _ w.if-n-gt1.false
+    ] in
     (omega arith, omega arith, front, refl, refl)
 
 pub returns-then-b-lt48 : goal.returns-then-b-lt48

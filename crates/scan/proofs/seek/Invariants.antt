@@ -1,10 +1,8 @@
 -- `scan::seek` meets its contract: what is still to be searched is what stands from i on.
-use Prim.Native.Nat.{ℕ, ◌+◌, ◌-◌, ◌≤◌}
-use mathlib.Core.Path.{◌≡◌, refl, ap}
-use native.Mathlib.Omega.{arith}
+use Prim.Native.Nat.{◌+◌, ◌-◌, ◌≤◌}
+use mathlib.Core.Path.{◌≡◌}
 use lib.ListN.{length, drop}
 use Rattle.rules.specs.Text.{up_to}
-use Rattle.scan.proofs.Parts.{here, not_here, nothing_left}
 use Rattle.scan.proofs.seek.Given as goal
 
 abbrev pub invariant-loop-i : goal.invariant-loop-i

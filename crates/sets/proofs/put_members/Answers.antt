@@ -1,11 +1,8 @@
 -- `sets::put_members` meets its contract: the members among the tasks passed are laid, and the bits left are those of the others.
-use mathlib.Core.Path.{◌≡◌, refl, ap}
-use Prim.Native.Nat.{◌-◌, ◌/◌, ◌≤◌}
+use mathlib.Core.Path.{refl, ap}
+use Prim.Native.Nat.{◌/◌}
 use native.Mathlib.Omega.{arith}
-use Rattle.rules.specs.Limits.{max_tasks}
-use Rattle.puts.specs.Laid.{Laid}
 use Rattle.puts.proofs.Puts.{laid_none, laid_then, laid_length}
-use Rattle.sets.specs.Sets.{halved, members_of}
 use Rattle.sets.proofs.Tasks.{members_none, members-suc, members_few, halved_none, halved-suc}
 use Rattle.sets.proofs.put_members.Goals as goal
 

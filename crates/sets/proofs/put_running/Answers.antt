@@ -1,5 +1,5 @@
 -- `sets::put_running` meets its contract: it is a line of numbers, the slot first and then the tasks of the set.
-use mathlib.Core.Path.{◌≡◌, refl}
+use mathlib.Core.Path.{◌≡◌}
 use mathlib.Core.List.{◌∷◌}
 use Prim.Native.Nat.{◌-◌}
 use native.Mathlib.Omega.{arith}

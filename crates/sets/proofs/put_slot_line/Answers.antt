@@ -1,5 +1,5 @@
 -- `sets::put_slot_line` meets its contract: it is a line of numbers, the time first and then the tasks of the set.
-use mathlib.Core.Path.{◌≡◌, refl}
+use mathlib.Core.Path.{◌≡◌}
 use mathlib.Core.Bool.{false}
 use mathlib.Core.List.{List, ◌∷◌}
 use Prim.Native.Nat.{ℕ, ◌-◌, ◌≤◌}

@@ -1,12 +1,10 @@
 -- `sets::put_tasks` meets its contract: the members among the tasks passed are laid.
 use mathlib.Core.Path.{◌≡◌}
 use mathlib.Core.Bool.{false}
-use Prim.Native.Nat.{◌-◌, ◌≤◌}
 use native.Mathlib.Omega.{arith}
 use lib.ListN.{get_or}
 use Rattle.rules.specs.Limits.{max_tasks}
-use Rattle.rules.specs.Slot.{tasks_from, tasks_in}
-use Rattle.puts.specs.Laid.{Laid}
+use Rattle.rules.specs.Slot.{tasks_in}
 use Rattle.puts.proofs.Puts.{laid_then, laid_length}
 use Rattle.sets.proofs.Tasks.{tasks_none, tasks_suc, tasks_few}
 use Rattle.sets.proofs.put_tasks.Goals as goal

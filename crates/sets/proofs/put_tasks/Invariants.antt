@@ -1,14 +1,10 @@
 -- `sets::put_tasks` meets its contract: the members among the tasks passed are laid.
-use mathlib.Core.Path.{◌≡◌}
 use mathlib.Core.Bool.{false}
 use Prim.Native.Nat.{◌-◌, ◌≤◌}
-use native.Mathlib.Omega.{arith}
 use lib.ListN.{get_or}
 use Rattle.rules.specs.Limits.{max_tasks}
-use Rattle.rules.specs.Slot.{tasks_from, tasks_in}
+use Rattle.rules.specs.Slot.{tasks_from}
 use Rattle.puts.specs.Laid.{Laid}
-use Rattle.puts.proofs.Puts.{laid_then, laid_length}
-use Rattle.sets.proofs.Tasks.{tasks_none, tasks_suc, tasks_few}
 use Rattle.sets.proofs.put_tasks.Given as goal
 
 abbrev pub invariant-loop-i : goal.invariant-loop-i

@@ -1,9 +1,7 @@
 -- `slots::keep_places` meets its contract.
 use mathlib.Core.Path.{ap}
-use Prim.Native.Nat.{ℕ, ◌-◌, ◌≤◌}
-use native.Mathlib.Omega.{arith}
-use Rattle.rules.specs.Limits.{max_tasks}
-use Rattle.slots.proofs.Trace.{Keeping, keeping_more, keeping_done}
+use Prim.Native.Nat.{ℕ, ◌-◌}
+use Rattle.slots.proofs.Trace.{keeping_more}
 use Rattle.slots.proofs.keep_places.Goals as goal
 
 pub loop-k-preserved : goal.loop-k-preserved

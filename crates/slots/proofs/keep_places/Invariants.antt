@@ -1,9 +1,6 @@
 -- `slots::keep_places` meets its contract.
-use mathlib.Core.Path.{ap}
-use Prim.Native.Nat.{ℕ, ◌-◌, ◌≤◌}
-use native.Mathlib.Omega.{arith}
-use Rattle.rules.specs.Limits.{max_tasks}
-use Rattle.slots.proofs.Trace.{Keeping, keeping_more, keeping_done}
+use Prim.Native.Nat.{◌-◌}
+use Rattle.slots.proofs.Trace.{Keeping}
 use Rattle.slots.proofs.keep_places.Given as goal
 
 abbrev pub invariant-loop-k : goal.invariant-loop-k

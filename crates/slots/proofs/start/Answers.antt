@@ -7,7 +7,7 @@ use Rattle.rules.specs.Replay.{idle_task}
 use Rattle.rules.specs.Slot.{no_task}
 use Rattle.lists.specs.Lists.{tab_long, tab_at}
 use Rattle.lists.specs.Fill.{filling_none, filling_store}
-use Rattle.slots.proofs.Counting.{Counting, counting_store, counting_past}
+use Rattle.slots.proofs.Counting.{counting_store, counting_past}
 use Rattle.slots.proofs.start.Goals as goal
 use Rattle.slots.proofs.start.Goals.{then-i-tasks, else-i-tasks}
 
@@ -27,7 +27,7 @@ loop-i-preserved c =
           (c.idle_task.ensures _ v.1 ∙ sym (tab_at idle_task max_tasks _ no_task k)),
       omega arith,
       elim c.if-i-tasks.branch [
-        then-i-tasks w ↦ rw w.counts-is (counting_store _ _ _ _ v.2 _ k w.free_count.ensures)
-      | else-i-tasks w ↦ rw w.counts-is (counting_past _ _ _ _ v.2 (omega arith))
+        | then-i-tasks w ↦ rw w.counts-is (counting_store _ _ _ _ v.2 _ k w.free_count.ensures)
+        | else-i-tasks w ↦ rw w.counts-is (counting_past _ _ _ _ v.2 (omega arith))
       ],
     )

@@ -1,15 +1,14 @@
 -- `slots::walk` meets its contract: each slot goes on from the one before it, and a slot that rests is passed over.
-use mathlib.Core.Path.{◌≡◌, refl, sym, ◌∙◌}
+use mathlib.Core.Path.{refl, sym, ◌∙◌}
 use mathlib.Core.Bool.{true≢false}
-use Prim.Native.Nat.{◌-◌, ◌<◌}
+use Prim.Native.Nat.{◌<◌}
 use native.Mathlib.Omega.{arith}
 use Rattle.rules.specs.Words.{tab}
-use Rattle.rules.specs.Case.{case_of}
 use Rattle.legal.specs.Legal.{legal, accepted_procs, accepted_table}
 use Rattle.slot.proofs.Slots.{among}
 use Rattle.traces.specs.Given.{orderly, needed}
 use Rattle.slots.proofs.Going.{slot_of, turned, handed, roomy, room_next}
-use Rattle.slots.proofs.Going.{Going, walking_none, last_none, noted_here, going_more, going_on}
+use Rattle.slots.proofs.Going.{walking_none, last_none, noted_here, going_more, going_on}
 use Rattle.slots.proofs.walk.Goals as goal
 use Rattle.slots.proofs.walk.Goals.{then-rests, else-rests+then-noting, else-rests+else-noting}
 
@@ -70,18 +69,18 @@ loop-clock-preserved c =
     let v = c.loop-clock.invariant in
     let k = c.loop-clock-test.true in
     elim c.if-rests.branch [
-      then-rests w ↦ rw (w.out-is, w.run-is, w.place-is, w.next-is, w.jobs-is, w.ran-is) (going_on _ _ _ _ _ _ _ _ _ _ _ v k g (c.rests.ensures w.if-rests.true))
-    | else-rests+then-noting w ↦
-        let a = w.pass_releases-next.ensures in
-        let s = slot_of _ _ _ a.2 _ v.walks.at_run _ _ _ _ _ w.settle-run.ensures _ w.choose-bound.ensures _ _ _ w.work-run.ensures in
-        let h = handed _ _ _ a.2 _ v.walks.at_run _ _ _ _ _ _ _ s _ _ a.1 in
-        let t = turned _ _ _ a.2 _ v.walks.at_run _ _ _ _ _ _ _ s _ _ a.0 a.1 in
-        rw (w.out-is, w.run-is, w.place-is, w.next-is, w.jobs-is, w.ran-is) (going_more _ _ _ _ _ _ _ _ _ _ _ v k _ _ _ _ _ _ t w.note_slot.auto.out
-        (λ z. room_next _ g _ _ (noted_here _ _ _ _ _ _ _ _ _ _ _ v z) _ a.0 _ _ _ _ h _ w.note_slot.ensures))
-    | else-rests+else-noting w ↦
-        let a = w.pass_releases-next.ensures in
-        let s = slot_of _ _ _ a.2 _ v.walks.at_run _ _ _ _ _ w.settle-run.ensures _ w.choose-bound.ensures _ _ _ w.work-run.ensures in
-        let t = turned _ _ _ a.2 _ v.walks.at_run _ _ _ _ _ _ _ s _ _ a.0 a.1 in
-        rw (w.out-is, w.run-is, w.place-is, w.next-is, w.jobs-is, w.ran-is)
-        (going_more _ _ _ _ _ _ _ _ _ _ _ v k _ _ _ _ _ _ t refl (λ z. absurd (true≢false (sym z ∙ w.if-noting.false))))
+      | then-rests w ↦ rw (w.out-is, w.run-is, w.place-is, w.next-is, w.jobs-is, w.ran-is) (going_on _ _ _ _ _ _ _ _ _ _ _ v k g (c.rests.ensures w.if-rests.true))
+      | else-rests+then-noting w ↦
+          let a = w.pass_releases-next.ensures in
+          let s = slot_of _ _ _ a.2 _ v.walks.at_run _ _ _ _ _ w.settle-run.ensures _ w.choose-bound.ensures _ _ _ w.work-run.ensures in
+          let h = handed _ _ _ a.2 _ v.walks.at_run _ _ _ _ _ _ _ s _ _ a.1 in
+          let t = turned _ _ _ a.2 _ v.walks.at_run _ _ _ _ _ _ _ s _ _ a.0 a.1 in
+          rw (w.out-is, w.run-is, w.place-is, w.next-is, w.jobs-is, w.ran-is) (going_more _ _ _ _ _ _ _ _ _ _ _ v k _ _ _ _ _ _ t w.note_slot.auto.out
+          (λ z. room_next _ g _ _ (noted_here _ _ _ _ _ _ _ _ _ _ _ v z) _ a.0 _ _ _ _ h _ w.note_slot.ensures))
+      | else-rests+else-noting w ↦
+          let a = w.pass_releases-next.ensures in
+          let s = slot_of _ _ _ a.2 _ v.walks.at_run _ _ _ _ _ w.settle-run.ensures _ w.choose-bound.ensures _ _ _ w.work-run.ensures in
+          let t = turned _ _ _ a.2 _ v.walks.at_run _ _ _ _ _ _ _ s _ _ a.0 a.1 in
+          rw (w.out-is, w.run-is, w.place-is, w.next-is, w.jobs-is, w.ran-is)
+          (going_more _ _ _ _ _ _ _ _ _ _ _ v k _ _ _ _ _ _ t refl (λ z. absurd (true≢false (sym z ∙ w.if-noting.false))))
     ]

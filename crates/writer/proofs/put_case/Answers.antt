@@ -37,12 +37,15 @@ put_rows-tail-requires c =
       length-append (head_text a.procs a.policy) (tasks ++ tail),
       length-append tasks tail,
     ) in
-    let head = c.put_head-tasks in record { width_in_bounds = omega arith; rows_in_bounds = omega (
+    let head = c.put_head-tasks in record {
+      width_in_bounds = omega arith;
+      rows_in_bounds = omega (
         arith,
         parts,
         head.auto.out,
         head.ensures.behind,
-      ) }
+      );
+    }
 
 pub put_tail-requires : goal.put_tail-requires
 put_tail-requires c =

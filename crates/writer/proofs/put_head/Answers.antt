@@ -23,11 +23,11 @@ slice_bounds-put_policy_line-count c =
     let parts : length (number_line 9 1 (c.args.procs ∷ [])) + length (policy_text c.args.policy) ≤ length c.args.out.now = omega (arith, length-append (procs_text c.args.procs) (policy_text c.args.policy)) in
     -- the line of processors is laid, and the other has room behind it
     let behind : c.put_line-second.result + length (policy_text c.args.policy) ≤ length c.put_line-second.new.out = omega (
-  arith,
-  parts,
-  c.put_line-second.auto.out,
-  c.put_line-second.ensures.behind,
-) in
+      arith,
+      parts,
+      c.put_line-second.auto.out,
+      c.put_line-second.ensures.behind,
+    ) in
     omega (arith, behind)
 
 pub slice_bounds-put_policy_line-start : goal.slice_bounds-put_policy_line-start
@@ -37,11 +37,11 @@ slice_bounds-put_policy_line-start c =
     let parts : length (number_line 9 1 (c.args.procs ∷ [])) + length (policy_text c.args.policy) ≤ length c.args.out.now = omega (arith, length-append (procs_text c.args.procs) (policy_text c.args.policy)) in
     -- the line of processors is laid, and the other has room behind it
     let behind : c.put_line-second.result + length (policy_text c.args.policy) ≤ length c.put_line-second.new.out = omega (
-  arith,
-  parts,
-  c.put_line-second.auto.out,
-  c.put_line-second.ensures.behind,
-) in
+      arith,
+      parts,
+      c.put_line-second.auto.out,
+      c.put_line-second.ensures.behind,
+    ) in
     omega (arith, behind)
 
 pub put_policy_line-n-requires : goal.put_policy_line-n-requires
@@ -51,11 +51,11 @@ put_policy_line-n-requires c =
     let parts : length (number_line 9 1 (c.args.procs ∷ [])) + length (policy_text c.args.policy) ≤ length c.args.out.now = omega (arith, length-append (procs_text c.args.procs) (policy_text c.args.policy)) in
     -- the line of processors is laid, and the other has room behind it
     let behind : c.put_line-second.result + length (policy_text c.args.policy) ≤ length c.put_line-second.new.out = omega (
-  arith,
-  parts,
-  c.put_line-second.auto.out,
-  c.put_line-second.ensures.behind,
-) in
+      arith,
+      parts,
+      c.put_line-second.auto.out,
+      c.put_line-second.ensures.behind,
+    ) in
     let put-line = c.put_line-second in
     omega (arith, behind, part_length put-line.result put-line.new.out)
 
@@ -66,11 +66,11 @@ overflow_add-result c =
     let parts : length (number_line 9 1 (c.args.procs ∷ [])) + length (policy_text c.args.policy) ≤ length c.args.out.now = omega (arith, length-append (procs_text c.args.procs) (policy_text c.args.policy)) in
     -- the line of processors is laid, and the other has room behind it
     let behind : c.put_line-second.result + length (policy_text c.args.policy) ≤ length c.put_line-second.new.out = omega (
-  arith,
-  parts,
-  c.put_line-second.auto.out,
-  c.put_line-second.ensures.behind,
-) in
+      arith,
+      parts,
+      c.put_line-second.auto.out,
+      c.put_line-second.ensures.behind,
+    ) in
     omega (arith, behind, c.put_policy_line-n.ensures.behind)
 
 pub returns : goal.returns
@@ -80,10 +80,10 @@ returns c =
     let parts : length (number_line 9 1 (c.args.procs ∷ [])) + length (policy_text c.args.policy) ≤ length c.args.out.now = omega (arith, length-append (procs_text c.args.procs) (policy_text c.args.policy)) in
     -- the line of processors is laid, and the other has room behind it
     let behind : c.put_line-second.result + length (policy_text c.args.policy) ≤ length c.put_line-second.new.out = omega (
-  arith,
-  parts,
-  c.put_line-second.auto.out,
-  c.put_line-second.ensures.behind,
-) in
+      arith,
+      parts,
+      c.put_line-second.auto.out,
+      c.put_line-second.ensures.behind,
+    ) in
     laid_then c.put_line-second.ensures
     (laid_part _ _ _ _ _ (omega (arith, behind)) c.put_policy_line-n.ensures)

@@ -6,7 +6,7 @@ use lib.ListN.{length, length-append}
 use Rattle.rules.specs.Policies.{policy_name}
 use Rattle.rules.specs.Writer.{policy_text, line_text, more_fields}
 use Rattle.puts.specs.Fields.{word_of}
-use Rattle.puts.proofs.Puts.{laid_byte, laid_then, laid_length}
+use Rattle.puts.proofs.Puts.{laid_byte, laid_then}
 use Rattle.writer.proofs.put_policy_line.Goals as goal
 
 pub put_word-at-requires : goal.put_word-at-requires

@@ -30,10 +30,10 @@ overflow_add-at c =
     -- the end line is laid
     let ended : Laid c.args.at (number_line 9 4 (c.args.end ∷ [])) c.args.out.now (put_mid c.args.at (length c.args.out.now - c.args.at) c.args.out.now c.put_line-n.new.out) (c.args.at + c.put_line-n.result) = laid_part _ _ _ _ _ (omega (arith, parts)) c.put_line-n.ensures in
     omega (
-  arith,
-  parts,
-  ended.behind,
-)
+      arith,
+      parts,
+      ended.behind,
+    )
 
 pub put_rows-requires : goal.put_rows-requires
 unfolding end_text tail_text word_of

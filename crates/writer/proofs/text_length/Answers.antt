@@ -62,12 +62,12 @@ overflow_add-result-3 c =
     -- the end's digits too
     let last : c.width-2.result ≤ 10 = omega (arith, c.width-2.ensures, at_most_ten c.args.end) in
     omega (
-  arith,
-  first,
-  head,
-  tasks,
-  last,
-)
+      arith,
+      first,
+      head,
+      tasks,
+      last,
+    )
 
 pub overflow_add-result-4 : goal.overflow_add-result-4
 overflow_add-result-4 c =
@@ -79,13 +79,13 @@ overflow_add-result-4 c =
     -- the end's digits too
     let last : c.width-2.result ≤ 10 = omega (arith, c.width-2.ensures, at_most_ten c.args.end) in
     omega (
-  arith,
-  first,
-  head,
-  tasks,
-  releases,
-  last,
-)
+      arith,
+      first,
+      head,
+      tasks,
+      releases,
+      last,
+    )
 
 pub returns : goal.returns
 returns c =
