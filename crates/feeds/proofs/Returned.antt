@@ -17,11 +17,12 @@ use Rattle.texts.specs.Fields.{without_head}
 use Rattle.feeds.specs.NumScan.{NumScan, num_bad, num_so_far, num_byte, num_end}
 use Rattle.feeds.specs.LineScan.{LineScan, unread, wrong, in_word, in_time, in_task, returned, time_at, task_at, after_time, after_task}
 use Rattle.feeds.specs.LineScan.{word_tab, word_byte, field_byte, field_all, Heard, heard_bad, heard, heard_time, heard_task, line_end, hears}
-use Rattle.feeds.specs.LineScan.{after_return, at_return, scan_byte, scan_all, wrong_ends}
-use Rattle.feeds.specs.LineHeard.{fields_heard}
+use Rattle.feeds.specs.LineScan.{after_return, at_return, scan_byte, scan_all}
+use Rattle.feeds.proofs.LineScan.{wrong_ends}
+use Rattle.feeds.proofs.LineHeard.{fields_heard}
 
 -- ---- a state within the fields of a line: no return came yet, and none stands in what is left of the word
-abbrev Reads : LineScan → Type 0
+abbrev pub Reads : LineScan → Type 0
 Reads unread = Unit {0}
 Reads wrong = Unit {0}
 Reads (in_word ws) = has return_byte ws ≡ false
