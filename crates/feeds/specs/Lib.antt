@@ -2,7 +2,5 @@ pub mod Alike
 pub mod NumScan
 pub mod LineScan
 pub mod LineHeard
-pub mod Returned
-pub mod Front
 pub mod Feed
 pub mod Bounds

@@ -41,8 +41,9 @@ use Rattle.traces.specs.Given.{orderly, rel_at, readied-same}
 use Rattle.traces.specs.NoneDue.{reached_next, none_now}
 use Rattle.feeds.specs.LineScan.{LineScan, unread, at_start, scan_all, Heard, line_end}
 use Rattle.feeds.specs.Feed.{Feed, feed_of, opening, formed_heard, names_heard, set_heard, heard_fault, closed, feed_byte, feed, fed_fault}
-use Rattle.feeds.specs.Feed.{feed-append, feed-within, fed_fault_lem, byte_stays}
-use Rattle.feeds.specs.Bounds.{LineSmall, FeedSmall, feed_small, opening_small, past_fault}
+use Rattle.feeds.proofs.Feed.{feed-append, feed-within, fed_fault_lem, byte_stays}
+use Rattle.feeds.specs.Bounds.{LineSmall, FeedSmall}
+use Rattle.feeds.proofs.Bounds.{feed_small, opening_small, past_fault}
 use Rattle.heard.specs.declared.Scan.{Scan}
 use Rattle.heard.specs.declared.Ended.{Ended}
 use Rattle.heard.specs.declared.Ended.TheVariants as Ended·

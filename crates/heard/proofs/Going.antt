@@ -17,7 +17,8 @@ use Rattle.rules.specs.Text.{newline_byte, up_to}
 use Rattle.lists.specs.Tests.{and_left, and_right, not_is}
 use Rattle.feeds.specs.NumScan.{num_so_far, fits}
 use Rattle.feeds.specs.LineScan.{LineScan, in_time, scan_byte, scan_all}
-use Rattle.feeds.specs.Bounds.{NumSmall, small_field, small_scan}
+use Rattle.feeds.specs.Bounds.{NumSmall}
+use Rattle.feeds.proofs.Bounds.{small_field, small_scan}
 use Rattle.heard.specs.Scans.{phase_as}
 use Rattle.heard.specs.Lines.{in_line, digit_fits, Goes, HeardLine}
 use Rattle.heard.proofs.Scanning.{fits_digit, digit_more, scan_other}

@@ -26,11 +26,6 @@ use Rattle.logs.specs.LowerFirst.{LowerTaskFirst, chosen-lower, lower_own}
 use Rattle.logs.specs.Clear.{accepted_lined, accepted_answer}
 use Rattle.logs.specs.Exact.{text_sets, follows_accepted, accepted_follows, accepted_bytes}
 
--- our own log is accepted, for every accepted case and policy
-pub own_log_accepted : (c : Case) → Accepted c → log_answer c (own_log c) ≡ result []
-unfolding own_log
-own_log_accepted c ok = accepted_answer c (own_log c) (follows_accepted c (ran_at c) ok (own_follows c c.end))
-
 -- the course of a log: its slots work the sets that the log names
 abbrev pub log_course : Case → List ℕ → Course
 log_course c s = course_of c (sets_of (log_lines s))

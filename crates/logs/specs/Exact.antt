@@ -141,11 +141,3 @@ pub record LogOf (c : Case) (s : List ℕ) : Type 0 where
 pub accepted_written : (c : Case) (s : List ℕ) → LogAccepted c s → Accepted c × LogOf c s
 accepted_written c s e =
     ((accepted_lined c s e).0, record { works = sets_of (log_lines s); follows = accepted_follows c s e; bytes = accepted_bytes c s e })
-
--- and what is so written is accepted
-pub written_accepted : (c : Case) (s : List ℕ) → Accepted c → LogOf c s → LogAccepted c s
-unfolding LogAccepted log_fault
-written_accepted c s ok w = rw (log_without s (rw w.bytes none), w.bytes) (follows_accepted c w.works ok w.follows)
-  where
-    none : has return_byte (log_text w.works c.end) ≡ false
-    none = unfold log_text in log_no_return (λ t. tasks_in (w.works t)) 0 c.end

@@ -58,7 +58,7 @@ read_as s tasks releases h w =
           take-first (release_count c.trace * release_width) c.trace _ (omega (arith, w.twos)));
     }
 
-written_as_lem : (c : Case) (room : List ℕ) → (write_fault c (length room)).number ≡ 0 → WrittenAs c room (case_text c)
+pub written_as_lem : (c : Case) (room : List ℕ) → (write_fault c (length room)).number ≡ 0 → WrittenAs c room (case_text c)
 unfolding write_answer write_bytes
 written_as_lem c room h = record {
   answer = settled_clear (write_fault c (length room)) _ h;
@@ -85,25 +85,6 @@ read_written c room n tasks releases h p q =
     let same = case_written c e in
     rw text (subst (ReadAs (case_text c) tasks releases) same
     (read_as (case_text c) tasks releases (rw (read_roomy (case_text c) _ _ p q, no_fault-written c e)) (rw same (legal c e))))
-
--- what a text with its policy line and without its returns takes up: a room of 60,000 bytes is always enough
-pub with_policy-fits : (s : List ℕ) → (text_fault s).number ≡ 0 → length (with_policy (without_returns s)) ≤ max_text
-with_policy-fits s h = rw (text_read s h) at (text_fits (case_in s) (case_accepted s h))
-
-write_read : (s tasks releases vs room : List ℕ)
-    → read_answer s tasks releases ≡ result vs
-    → length (with_policy (without_returns s)) ≤ length room
-    → WrittenAs (in_hand vs (read_tasks s tasks releases) (read_releases s tasks releases)) room (with_policy (without_returns s))
-unfolding read_answer
-write_read s tasks releases vs room h p =
-    let a = settled_result (read_fault s (length tasks) (length releases)) (case_values (case_in s)) vs h in
-    let clear = (read_clear s _ _ a.0).text in
-    let e = case_accepted s clear in
-    let text = text_read s clear in
-    let hand : in_hand vs (read_tasks s tasks releases) (read_releases s tasks releases) ≡ case_in s =
-    ap (λ l. in_hand l (read_tasks s tasks releases) (read_releases s tasks releases)) (sym a.1)
-    ∙ (read_as s tasks releases a.0 (legal (case_in s) e)).in_hand_lem in
-    rw hand (subst (WrittenAs (case_in s) room) text (written_as_lem (case_in s) room (write_clear (case_in s) (length room) e (rw text p))))
 
 -- ---- both calls: any answers that keep their promises
 -- the reader said that it read the case c, and its rooms hold it
@@ -137,17 +118,3 @@ read_what_was_written c bytes w later n tasks releases r ts rs wrote said p q pr
       releases-after = kept.left_releases ∙ a.releases-after;
       in_hand_lem = ap₂ (in_hand (case_values c)) kept.left_tasks kept.left_releases ∙ a.in_hand_lem;
     }
-
--- writing what was read gives the text with its policy line where it was absent and without its returns
-pub written_what_was_read : (s tasks releases : List ℕ) (r : Taken) (ts rs vs bytes : List ℕ) (w : Written) (later : List ℕ)
-    → ReadPromise s tasks releases r ts rs
-    → taken_as r ≡ result vs
-    → length (with_policy (without_returns s)) ≤ length bytes
-    → WritePromise (in_hand vs ts rs) bytes w later
-    → Wrote (with_policy (without_returns s)) bytes w later
-written_what_was_read s tasks releases r ts rs vs bytes w later read said p promise =
-    let a = write_read s tasks releases vs bytes (sym read.answer ∙ said) p in
-    let same : in_hand vs ts rs ≡ in_hand vs (read_tasks s tasks releases) (read_releases s tasks releases) =
-    ap₂ (in_hand vs) read.left_tasks read.left_releases in
-    let kept = subst (λ c. WritePromise c bytes w later) same promise in
-    record { answer = kept.answer ∙ a.answer; bytes_after = kept.left ∙ a.bytes }

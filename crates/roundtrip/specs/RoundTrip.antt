@@ -93,16 +93,6 @@ pub text_read : (s : List ℕ) → (text_fault s).number ≡ 0 → case_text (ca
 unfolding case_with_default case_in
 text_read s h = text_ordered (lines_of s) (ordered_of (lines_of s) (text_clear s h).lines) ∙ ap with_policy (read_lines s h)
 
--- where the policy line was there, just the text without its returns
-pub text_read_given : (s : List ℕ) → (text_fault s).number ≡ 0 → policy_given (without_returns s) ≡ true
-    → case_text (case_in s) ≡ without_returns s
-unfolding with_policy
-text_read_given s h g = text_read s h ∙ rw g
-
--- where there was no return, the same text but for the policy line
-pub text_read_before : (s : List ℕ) → (text_fault s).number ≡ 0 → has return_byte s ≡ false → case_text (case_in s) ≡ with_policy s
-text_read_before s h r = text_read s h ∙ ap with_policy (without_none s r)
-
 -- ---- a text without its returns
 -- its lines, where the reader finds no fault in the text
 lines_without : (s : List ℕ) → (text_fault s).number ≡ 0 → lines_of s ≡ lines_of (without_returns s)

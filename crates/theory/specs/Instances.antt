@@ -49,31 +49,32 @@ LowestOfA =
     (case_fault (released_a []) ≡ fault_of 16 1) ×
     (case_fault (released_a (0 ∷ 1 ∷ 0 ∷ 1 ∷ [])) ≡ fault_of 9 2)
 
--- the cases are accepted, and set A is refused where it lacks releases: the tests are computed
-tested :
-    (Accepted (case_a edf_cf 10) × Accepted (case_a edf_cf 1) × Accepted (tight edf_cf) × Accepted crowded × Accepted (later_a edf_cf 10)) ×
-    LowestOfA
+-- the cases are accepted: the tests are computed
+tested : Accepted (case_a edf_cf 10) × Accepted (case_a edf_cf 1) × Accepted (tight edf_cf) × Accepted crowded × Accepted (later_a edf_cf 10)
 unfolding Accepted case_fault or_next first_of procs_fault policy_fault table_fault task_fault end_fault trace_fault in_order last_before release_fault
     sum absent_fault
-tested = ((refl, refl, refl, refl, refl), (refl, refl, refl, refl))
+tested = (refl, refl, refl, refl, refl)
 
 pub accepted_A : Accepted (case_a edf_cf 10)
-accepted_A = tested.0.0
+accepted_A = tested.0
 
 pub accepted_A_cut : Accepted (case_a edf_cf 1)
-accepted_A_cut = tested.0.1
+accepted_A_cut = tested.1
 
 pub accepted_tight : Accepted (tight edf_cf)
-accepted_tight = tested.0.2
+accepted_tight = tested.2
 
 pub accepted_crowded : Accepted crowded
-accepted_crowded = tested.0.3
+accepted_crowded = tested.3
 
 pub accepted_later_A : Accepted (later_a edf_cf 10)
-accepted_later_A = tested.0.4
+accepted_later_A = tested.4
 
+-- and set A is refused where it lacks releases
 pub lowest_of_A : LowestOfA
-lowest_of_A = tested.1
+unfolding Accepted case_fault or_next first_of procs_fault policy_fault table_fault task_fault end_fault trace_fault in_order last_before release_fault
+    sum absent_fault
+lowest_of_A = (refl, refl, refl, refl)
 
 -- set A: task 3 is missed under EDF and met under EDF-CF; task 1 is demoted at 0 and met at 2, where EDF meets it at 1
 pub set_A : (record_by (case_a edf 10) 10 2 ≡ record_of 2 0 0) × (record_by (case_a edf_cf 10) 10 2 ≡ record_of 1 5 0)

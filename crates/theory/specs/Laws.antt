@@ -39,12 +39,6 @@ pub above_count : (g : Setup) → demoting g.policy ≡ true → (r : Run) → F
 unfolding present
 above_count g cf r full i l = rw (demoted_at_lem i l g r full, cf) (normal_above (job_at r i))
 
--- so in each slot of a case
-pub slot_above_count : (c : Case) → demoting c.policy ≡ true → (t i : ℕ) → i < max_tasks
-    → present (counted_at c t) i ≡ true → is_demoted (job_at (counted_at c t) i) ≡ false
-    → free_of (job_at (counted_at c t) i) < left_of (job_at (counted_at c t) i)
-slot_above_count c cf t = above_count (setup_in c) cf _ (readied_full _ _ _ _ (state_full c t))
-
 -- ---- how many run
 -- in each slot exactly min(m, N) tasks run
 pub exactly_run : (c : Case) (t : ℕ) → count_in (ran_at c t) 0 max_tasks ≡ min c.procs (jobs_now (counted_at c t))
