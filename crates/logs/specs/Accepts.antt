@@ -1,12 +1,12 @@
 -- Request P2's promises, said of logs as bytes: our own log is accepted; for an accepted EDF-CF log parts 1 and 2 of demand 3 hold; an
 -- accepted log that takes the lower task on every tie is our own but for its returns.
-use Rattle.std.specs.Prelude.{◌≡◌, true, List, [], ℕ, ◌≤◌, ◌<◌}
+use Rattle.std.specs.Prelude.{◌≡◌, refl, true, List, [], ℕ, ◌≤◌, ◌<◌}
 use Rattle.std.proofs.Common.{sym, ap, ◌∙◌, arith}
 use Rattle.rules.specs.Limits.{max_tasks}
-use Rattle.rules.specs.Words.{count_in}
+use Rattle.rules.specs.Words.{count_in, tab}
 use Rattle.rules.specs.Text.{without_returns}
 use Rattle.rules.specs.Writer.{joined_text}
-use Rattle.rules.specs.Case.{Case, deadline, time_of}
+use Rattle.rules.specs.Case.{Case, deadline, release_count, time_of}
 use Rattle.rules.specs.Counts.{free_count}
 use Rattle.rules.specs.Policies.{demoting}
 use Rattle.rules.specs.Refusals.{Accepted}

@@ -1,7 +1,7 @@
 -- The round trip (document 01, "The case text", and request P4) in the words of the public calls: what the reader answers to what the
 -- writer wrote, and what the writer writes of what the reader read, for any answers that keep the promises of the calls (rules, Calls).
 -- Asked is only that the first call gave a result and that the second has room.
-use Rattle.std.specs.Prelude.{◌≡◌, List, [], ◌∷◌, ◌++◌, ℕ, ◌*◌, ◌≤◌, length, get_or, take, drop}
+use Rattle.std.specs.Prelude.{◌≡◌, List, [], ◌∷◌, ◌++◌, ℕ, ◌+◌, ◌*◌, ◌≤◌, length, get_or, take, drop}
 use Rattle.std.proofs.Common.{sym, ap, ap₂, ◌∙◌, subst, arith}
 use Rattle.rules.specs.declared.Taken.{Taken}
 use Rattle.rules.specs.declared.Written.{Written}
