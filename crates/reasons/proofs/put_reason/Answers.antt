@@ -1,6 +1,6 @@
 -- `reasons::put_reason` meets its contract: in each arm the words are known by the number.
 use Rattle.reasons.specs.Reasons.{sign_bytes, words}
-use Rattle.reasons.proofs.Chosen.{chosen, not_early}
+use Rattle.reasons.proofs.Chosen.{chosen}
 use borrow.Author.Rules.{rules}
 use Rattle.reasons.proofs.put_reason.Goals as goal
 
