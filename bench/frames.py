@@ -1,19 +1,27 @@
 """The stack of each public call, by the frames on its deepest path.
 
 Read off the archive's machine code (x86-64): what a function pushes and takes
-off the stack pointer before it does anything else, eight bytes for where it
-returns to, and which functions it calls.  Each function has a section of its
-own, and a call to another has a relocation, so no disassembler is needed.
-What C's library takes, as in a copy of memory, is not counted, nor arguments
-that are passed on the stack: bench/measure.c measures the whole.
+off the stack pointer before it does anything else, or gives back before it
+ends, where that is more (a function may do some work first and then take its
+frame); eight bytes for where it returns to; and which functions it calls.  Each
+function has a section of its own, and a call to another has a relocation, so no
+disassembler is needed; tests/test_bench.py holds the frames to one where there
+is one.  What C's library takes, as in a copy of memory, is not counted, nor
+arguments that are passed on the stack: bench/measure.c measures the whole.
 """
 
 import collections
+import re
 import struct
 
 PUSHED = 8
 PUSHES = range(0x50, 0x58)
 TAKE, TAKE_FEW = b"\x48\x81\xec", b"\x48\x83\xec"
+# 128 bytes are taken by adding -128, and given back by taking it: that is the shorter way.
+TAKE_128, GIVE_128 = b"\x48\x83\xc4\x80", b"\x48\x83\xec\x80"
+# What stands before a return or a last jump: what is added to the stack pointer, and what is popped.
+GIVEN = re.compile(rb"(?:\x48\x83\xc4([\0-\x7f])|\x48\x81\xc4(.{4})|(\x48\x83\xec\x80))?"
+                   rb"((?:[\x58\x59\x5b\x5d]|\x41[\x5c-\x5f])*)[\xc3\xe9\xeb]", re.DOTALL)
 TOUCH = b"\x48\xc7\x04\x24\0\0\0\0"
 CALL, JUMP = 0xE8, 0xE9
 FUNCTION, SECTION, RELOCATIONS, GLOBAL = 2, 3, 4, 1
@@ -33,13 +41,15 @@ def members(archive):
         at += 60 + size + size % 2
 
 
-def frame(code):
-    """The bytes of a function's frame, with where it returns to.  One over a page is taken page by page, each touched."""
-    at, size = 0, PUSHED
+def taken(code):
+    """The bytes that a function takes before it does anything else.  Many are taken piece by piece, each touched."""
+    at, size = 0, 0
     while code[at] in PUSHES or (code[at] == 0x41 and code[at + 1] in PUSHES):
         at += 2 if code[at] == 0x41 else 1
         size += PUSHED
-    while code[at:at + 3] in (TAKE, TAKE_FEW):
+    if code[at:at + 4] == TAKE_128:
+        return size + 128
+    while code[at:at + 3] in (TAKE, TAKE_FEW) and code[at:at + 4] != GIVE_128:
         many = code[at:at + 3] == TAKE
         size += struct.unpack_from("<I" if many else "<B", code, at + 3)[0]
         at += 7 if many else 4
@@ -47,6 +57,20 @@ def frame(code):
             break
         at += 8
     return size
+
+
+def given_back(code):
+    """The most bytes that a function gives back where it ends."""
+    most = 0
+    for few, many, eighth, pops in GIVEN.findall(code):
+        added = few[0] if few else struct.unpack("<I", many)[0] if many else 128 if eighth else 0
+        most = max(most, added + PUSHED * len(pops.replace(b"\x41", b"")))
+    return most
+
+
+def frame(code):
+    """The bytes of a function's frame, with where it returns to."""
+    return PUSHED + max(taken(code), given_back(code))
 
 
 def functions(data):

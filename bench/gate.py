@@ -1,32 +1,34 @@
-"""The times of `rt ci` by crate, from the lines that it prints.
+"""When `rt ci` was done with each crate, from the lines that it prints.
 
-A crate's line has the seconds of its proof, an edit's line those of the check
-that refused it, and a program's line those of its run.  `rt` prints them as it
-goes and leaves them in target/ too, so they are read off a log, a run that is
-going on, or what the last run left.
+`rt` says of a crate that it is proved, or that it is kept from an earlier run
+of the same files, and of a must-fail edit what came of it.  It says no times:
+bench/run puts before each line how many seconds after the start of the run it
+came.  Crates go side by side, so this is when a proof ended and not how long it
+took.  A log without such marks has no times.
 """
 
-import glob
-import os
 import re
 
-PROVED = re.compile(r"rt: (\w+) (?:proved|NOT PROVED) \((?:exit \d+, )?(\d+) s\)$")
-UNCHANGED = re.compile(r"rt: (\w+) proved \(unchanged since it was last proved\)$")
-TRIED = re.compile(r"rt: must-fail (\w+)/\w+: .*?(\d+) s\)$")
-RAN = re.compile(r"rt: (\w+) (?:ran\b.*|proved, and its run FAILED) \((\d+) s\)$")
+MARKED = re.compile(r"\[ *(\d+) s\] (.*)$")
+PROVED = re.compile(r"rt: (\w+) (?:proved|NOT PROVED)$")
+KEPT = re.compile(r"rt: (\w+) is kept: ")
+TESTED = re.compile(r"rt: (\w+): its tests are (?:proved|NOT PROVED)$")
+TRIED = re.compile(r"rt: must-fail (\w+)/[\w.-]+: ")
 
 
 class Times:
-    """The seconds of one crate: None where its proof was not timed."""
+    """Of one crate: whether its proof is kept, when it and that of its tests ended (None where that is not known), and its edits."""
 
     def __init__(self):
+        self.kept = False
         self.proof = None
+        self.tests = None
         self.edits = 0
-        self.edits_took = 0
-        self.run = 0
 
-    def whole(self):
-        return (self.proof or 0) + self.edits_took + self.run
+
+def marked(line, seconds):
+    """The line with the seconds before it."""
+    return f"[{seconds:4d} s] {line}"
 
 
 def by_crate(lines):
@@ -34,43 +36,35 @@ def by_crate(lines):
     crates = {}
 
     def of(found):
-        return crates.setdefault(found.group(1), Times()), int(found.group(2))
+        return crates.setdefault(found.group(1), Times())
 
     for line in map(str.rstrip, lines):
-        if found := UNCHANGED.match(line):
-            crates.setdefault(found.group(1), Times())
+        seconds = None
+        if found := MARKED.match(line):
+            seconds, line = int(found.group(1)), found.group(2)
+        if found := KEPT.match(line):
+            of(found).kept = True
         elif found := PROVED.match(line):
-            times, seconds = of(found)
-            times.proof = seconds
+            of(found).proof = seconds
+        elif found := TESTED.match(line):
+            of(found).tests = seconds
         elif found := TRIED.match(line):
-            times, seconds = of(found)
-            times.edits += 1
-            times.edits_took += seconds
-        elif found := RAN.match(line):
-            times, seconds = of(found)
-            times.run += seconds
+            of(found).edits += 1
     return crates
 
 
-def left_in(target):
-    """The lines that the last run of `rt` left in target/: of each crate, then of each edit."""
-    found = sorted(glob.glob(os.path.join(target, "log", "*.out")), key=os.path.getmtime)
-    found += sorted(glob.glob(os.path.join(target, "must-fail", "*", "*.out")))
-    for path in found:
-        with open(path, encoding="utf-8", errors="replace") as file:
-            yield from file
+def said(seconds):
+    return "-" if seconds is None else f"{seconds} s"
 
 
 def table(crates):
     """The lines of a table by crate, with a last line over all of them."""
-    rows = [("crate", "proof", "edits", "their time", "whole")]
+    rows = [("crate", "proved at", "its tests", "edits")]
     for name, times in crates.items():
-        proof = "-" if times.proof is None else f"{times.proof} s"
-        rows.append((name, proof, times.edits, f"{times.edits_took} s", f"{times.whole()} s"))
+        rows.append((name, "kept" if times.kept else said(times.proof), said(times.tests), times.edits))
     every = list(crates.values())
-    rows.append(("all", f"{sum(times.proof or 0 for times in every)} s",
-                 sum(times.edits for times in every),
-                 f"{sum(times.edits_took for times in every)} s",
-                 f"{sum(times.whole() for times in every)} s"))
-    for name, *numbers in rows:
-        yield f"{name:<12}" + "".join(f"{number:>12}" for number in numbers)
+    rows.append(("all", said(max((times.proof for times in every if times.proof is not None), default=None)),
+                 said(max((times.tests for times in every if times.tests is not None), default=None)),
+                 sum(times.edits for times in every)))
+    for name, *cells in rows:
+        yield f"{name:<12}" + "".join(f"{cell:>12}" for cell in cells)

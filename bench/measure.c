@@ -62,7 +62,7 @@ static void read_input(void)
         text[text_len++] = (uint8_t)b;
 }
 
-/* The text as an older one: without its second line where that is a policy line. No other word of a text starts with `po`. */
+/* The text to convert: without its second line where that is a policy line. No other word of a text starts with `po`. */
 static void make_old(void)
 {
     size_t at = 0, skip = 0;

@@ -73,7 +73,7 @@ int read_text(const uint8_t *text, size_t length, struct read_case *c, uint32_t 
     int before = 0;
 
     *place = 1;
-    c->policy = 1;
+    c->policy = 0;
     c->tasks = c->releases = 0;
     while (at < length) {
         uint32_t to[3];
@@ -105,11 +105,11 @@ int read_text(const uint8_t *text, size_t length, struct read_case *c, uint32_t 
         } else if (word(text, &at, length, "policy\tedf-cf")) {
             if (!newline(text, &at, length))
                 return 2;
+            c->policy = 1;
             kind = 2;
         } else if (word(text, &at, length, "policy\tedf")) {
             if (!newline(text, &at, length))
                 return 2;
-            c->policy = 0;
             kind = 2;
         } else if (word(text, &at, length, "end")) {
             if (!numbers(text, &at, length, 1, &c->end))

@@ -24,9 +24,9 @@ WIDTH = 3       # of a stroke and what parts it from the next
 
 
 def needs_in(text):
-    """The crates of a crates.txt in their order, each with the crates of it that it needs."""
+    """The crates of a crates.txt in their order, each with the crates of it that it needs.  A word behind a name says what is built of it."""
     said = [line.partition("#")[0].partition(":") for line in text.splitlines()]
-    needs = {name.strip(): others.split() for name, colon, others in said if colon}
+    needs = {name.split()[0]: others.split() for name, colon, others in said if colon}
     return {name: [other for other in others if other in needs]
             for name, others in needs.items()}
 

@@ -135,8 +135,8 @@ def of_running_set():
 
 def of_read():
     rooms = (room(96), room(4000))
-    for what, text, policy in [("the case of document 01", TEXT_A, 1), ("without a policy line", HEAD_A + REST_A, 1),
-                               ("the same under EDF", HEAD_A + b"policy\tedf\n" + REST_A, 0)]:
+    for what, text, policy in [("the case of document 01", TEXT_A, 1), ("without a policy line", HEAD_A + REST_A, 0),
+                               ("the same with its policy line", HEAD_A + b"policy\tedf\n" + REST_A, 0)]:
         yield taken(what, "read_case", (text, *rooms), [2, policy, 10, 3, 3], SET_A, ALL_AT_0)
     yield refused("room for 95 task numbers", "read_case", (b"\n" * 60001, room(95), room(4000)), 13)
     yield refused("room for 3,999 release numbers", "read_case", (TEXT_A, room(96), room(3999)), 13)

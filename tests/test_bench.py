@@ -5,6 +5,8 @@ import importlib.machinery
 import importlib.util
 import os
 import re
+import shutil
+import subprocess
 import sys
 import tempfile
 import unittest
@@ -18,24 +20,27 @@ import gate
 import kit
 import replay
 
-# Lines as `rt` prints them, one of each form, among others that have no time.
+# Lines as `rt ci` prints them, one of each form that counts, among others, with the seconds that bench/run puts before each.
 PRINTED = """\
-crates/table/proofs/in_order/Proof.antt:33:6: note: large solution: 12 s) of it
-fn counts::smaller: proved
-logic=proved functions=6 sum=064da1ca440f63e7 native=nat,char,string
-rt: rules proved (unchanged since it was last proved)
-rt: counts proved (8 s)
-rt: program proved (37 s)
-rt: reader NOT PROVED (exit 1, 12 s)
-rt: abi NOT PROVED: its dependency reader is not proved
-rt: must-fail counts/divides_by_m: refused, as it must be (first at proofs/count_of/Proof.antt:13:15; 9 s)
-rt: must-fail counts/leaves_out_a_task: refused, as it must be (10 s)
-rt: must-fail rules/none: NOT REFUSED: the crate is still proved with this edit (2 s)
-rt: must-fail counts/no_such_text: BAD EDIT: an 'old:' text is not in src/lib.rt
-rt: program ran as nobody, and wrote what its file 'stdout' has (1 s)
-rt: second proved, and its run FAILED (3 s)
-rt: FAILED: reader abi rules/none counts/no_such_text second
-4 passed, 5 failed
+[   0 s] rt: rules is kept: an earlier run on this machine proved the same files over the same libraries
+[   8 s] == counts
+[   8 s] fn counts::smaller: proved
+[   8 s] logic=proved functions=6 sum=064da1ca440f63e7 native=nat,char,string
+[   8 s] rt: counts proved
+[  11 s] rt: counts: its tests are proved
+[  12 s] rt: reader NOT PROVED
+[  12 s] rt: abi NOT PROVED: its library reader failed
+[  12 s] rt: counts: trying its must-fail edits (3)
+[  37 s] rt: program proved
+[1060 s] rt: rules: 1 of its 2 must-fail edits were tried by an earlier run on this machine, and nothing that they stand on has changed
+[1060 s] rt: must-fail rules/none.edit: NOT REFUSED: the crate is still proved with this edit (one that means the same as before ..)
+[1060 s] rt: must-fail rules/any.edit: refused, as it must be: src/lib.rt:13:15: error: not proved
+[1060 s] rt: must-fail counts/divides_by_m.edit: refused, as it must be: note: proofs/count_of/Answers.antt:13:15
+[1060 s] rt: must-fail counts/leaves_out_a_task.edit: refused, as it must be
+[1060 s] rt: must-fail counts/no_such_text.edit: BAD EDIT: an 'old:' text is not in src/lib.rt
+[1061 s] rt: program ran, and wrote what its file stdout has
+[1061 s] rt: FAILED: reader abi rules/none.edit
+[1061 s] 7 passed, 3 failed
 """
 
 
@@ -43,34 +48,31 @@ class Gate(unittest.TestCase):
 
     def test_the_times_of_each_crate(self):
         found = gate.by_crate(PRINTED.splitlines(keepends=True))
-        self.assertEqual({name: (times.proof, times.edits, times.edits_took, times.run)
+        self.assertEqual({name: (times.kept, times.proof, times.tests, times.edits)
                           for name, times in found.items()},
-                         {"rules": (None, 1, 2, 0), "counts": (8, 2, 19, 0),
-                          "program": (37, 0, 0, 1), "reader": (12, 0, 0, 0),
-                          "second": (None, 0, 0, 3)})
+                         {"rules": (True, None, None, 2), "counts": (False, 8, 11, 3),
+                          "reader": (False, 12, None, 0), "program": (False, 37, None, 0)})
 
-    def test_the_sum_is_of_all(self):
+    def test_the_last_line_is_of_all(self):
         *_, last = gate.table(gate.by_crate(PRINTED.splitlines()))
-        self.assertEqual(last.split(), "all 57 s 3 21 s 82 s".split())
+        self.assertEqual(last.split(), "all 37 s 11 s 5".split())
 
-    def test_what_a_run_left(self):
-        with tempfile.TemporaryDirectory() as target:
-            for path, line in [
-                    ("log/table.out", "rt: table proved (22 s)"),
-                    ("log/table.say", "rt: table proved (99 s)"),
-                    ("must-fail/table/one.out", "rt: must-fail table/one: refused, as it must be (5 s)"),
-                    ("must-fail/table/two.out", "rt: must-fail table/two: refused, as it must be (6 s)")]:
-                path = os.path.join(target, path)
-                os.makedirs(os.path.dirname(path), exist_ok=True)
-                with open(path, "w") as file:
-                    file.write(line + "\n")
-            found = gate.by_crate(gate.left_in(target))
-        self.assertEqual(list(found), ["table"])
-        self.assertEqual((found["table"].proof, found["table"].edits, found["table"].whole()), (22, 2, 33))
+    def test_a_row_of_each_sort(self):
+        rows = {row.split()[0]: row.split()[1:] for row in gate.table(gate.by_crate(PRINTED.splitlines()))}
+        self.assertEqual((rows["rules"], rows["counts"], rows["reader"]),
+                         (["kept", "-", "2"], ["8", "s", "11", "s", "3"], ["12", "s", "-", "0"]))
 
-    def test_nothing_left(self):
-        with tempfile.TemporaryDirectory() as target:
-            self.assertEqual(gate.by_crate(gate.left_in(target)), {})
+    def test_a_log_without_marks_has_no_times(self):
+        bare = [line.partition("] ")[2] for line in PRINTED.splitlines()]
+        found = gate.by_crate(bare)
+        self.assertEqual({name: (times.kept, times.proof, times.edits) for name, times in found.items()},
+                         {"rules": (True, None, 2), "counts": (False, None, 3), "reader": (False, None, 0), "program": (False, None, 0)})
+
+    def test_a_mark(self):
+        self.assertEqual(gate.marked("rt: counts proved\n", 8), "[   8 s] rt: counts proved\n")
+
+    def test_nothing_printed(self):
+        self.assertEqual(gate.by_crate([]), {})
 
 
 def bench_run():
@@ -107,6 +109,29 @@ NAMES = {"log": "check_log", "writer": "write", "reader": "read", "converter": "
 TIMED = ["replay", "checks", "log", "reader", "writer", "converter"]
 
 
+OBJDUMP = shutil.which("objdump")
+
+
+def deepest_in(said):
+    """By the name of each function that objdump shows: the most that its instructions have taken at one time, with where it returns to."""
+    deepest, name = {}, None
+    for line in said.splitlines():
+        if start := re.match(r"[0-9a-f]+ <(.*)>:$", line):
+            name, depth = start.group(1), 8
+            deepest[name] = depth
+        elif step := re.match(r"\s*[0-9a-f]+:\s+(push|pop|ret|sub|add)\b\s*(?:\$(-?0x[0-9a-f]+),%rsp$)?(.*)", line):
+            word, size, rest = step.groups()
+            if word == "ret":
+                depth = 8
+            elif word in ("push", "pop"):
+                depth += 8 if word == "push" else -8
+            elif size and rest == "":
+                size = (int(size, 16) + 2**63) % 2**64 - 2**63
+                depth += size if word == "sub" else -size
+            deepest[name] = max(deepest[name], depth)
+    return deepest
+
+
 class Stack(unittest.TestCase):
 
     def test_a_frame(self):
@@ -114,6 +139,17 @@ class Stack(unittest.TestCase):
         self.assertEqual(frames.frame(b"\xc3"), 8)
         self.assertEqual(frames.frame(pushes + b"\x48\x83\xec\x28\xc3"), 8 + 4 * 8 + 40)
         self.assertEqual(frames.frame(pushes + b"\x48\x81\xec\xd8\x06\0\0\x48\x83\xec\x08"), 8 + 4 * 8 + 1752)
+
+    def test_a_frame_that_is_taken_later(self):
+        pushes, pops = b"\x55\x41\x57\x41\x56\x53", b"\x5b\x41\x5e\x41\x5f\x5d"
+        early = b"\x85\xff\x74\x02\xc3\x90"
+        self.assertEqual(frames.frame(early + pushes + b"\x48\x83\xec\x28\x90\x48\x83\xc4\x28" + pops + b"\xc3"), 8 + 4 * 8 + 40)
+        self.assertEqual(frames.frame(early + b"\x48\x81\xec\xd8\x06\0\0\x90\x48\x81\xc4\xd8\x06\0\0\xe9\0\0\0\0"), 8 + 1752)
+        self.assertEqual(frames.frame(early + b"\x50\x90\x58\xc3"), 8 + 8)
+
+    def test_a_frame_of_128_bytes(self):
+        self.assertEqual(frames.frame(b"\x53\x48\x83\xc4\x80\x90\x48\x83\xec\x80\x5b\xc3"), 8 + 8 + 128)
+        self.assertEqual(frames.frame(b"\x74\x02\x53\x48\x83\xc4\x80\x90\x48\x83\xec\x80\x5b\xc3"), 8 + 8 + 128)
 
     def test_a_frame_over_a_page(self):
         page = b"\x48\x81\xec\0\x10\0\0" + frames.TOUCH
@@ -132,6 +168,14 @@ class Stack(unittest.TestCase):
         for call, most in MOST.items():
             name = "thrumcomb_" + NAMES.get(call, call).replace(" ", "_")
             self.assertLess(sum(f.frame for f in paths[name]), most, name)
+
+    @unittest.skipIf(OBJDUMP is None, "no objdump is found")
+    def test_the_frames_are_those_of_a_disassembler(self):
+        said = subprocess.run([OBJDUMP, "-d", "--no-show-raw-insn", kit.archive()], stdout=subprocess.PIPE, check=True, text=True).stdout
+        with open(kit.archive(), "rb") as file:
+            found = {f.name: f.frame for data in frames.members(file.read()) for f in frames.functions(data).values()}
+        self.assertEqual(found, deepest_in(said))
+        self.assertGreater(len(found), 7)
 
     def test_the_stack_that_the_calls_use(self):
         run = bench_run()

@@ -1,4 +1,4 @@
-"""Older texts, converted (request P6): what is promised of a conversion, by replay.py and through the archive.
+"""Texts converted to say their policy (the call of request P6): what is promised of a conversion, by replay.py and through the archive.
 
 And wrong converters that look right, each of which the inputs tell.
 """
@@ -30,6 +30,12 @@ def case_read(answer):
 
 def reading(text):
     return "read_case", (text, list(range(replay.READER_TASK_ROOM)), list(range(replay.READER_RELEASE_ROOM)))
+
+
+def meant(text):
+    """The case that an accepted text means, by replay.py."""
+    name, args = reading(text)
+    return case_read(getattr(replay, name)(*args))
 
 
 def fault_of(answer):
@@ -68,15 +74,14 @@ class Laws:
 
     def test_the_result_is_the_case_that_the_text_meant(self):
         found = self.accepted()
-        means_another = 0
-        for (text, _), answer in zip(found, self.answers([reading(result) for _, result in found])):
-            fault, meant = replay.old_case_in(text)
-            self.assertEqual((answer.number, fault), (0, None), text)
-            self.assertEqual(case_read(answer), meant, text)
-            # What the text itself means now: without the conversion it would be another case.
-            means_another += replay.case_in(text)[1] != meant
-        self.assertEqual(means_another, sum(not says_a_policy(text) for text, _ in found))
-        self.assertGreater(min(means_another, len(found) - means_another), COUNT // 20)
+        reads = self.answers([reading(text) for text, _ in found])
+        for (text, _), read, answer in zip(found, reads, self.answers([reading(result) for _, result in found])):
+            self.assertEqual((read.number, answer.number), (0, 0), text)
+            self.assertEqual(case_read(answer), case_read(read), text)
+            self.assertEqual(case_read(answer), meant(text), text)
+        changed = sum(text != result for text, result in found)
+        self.assertEqual(changed, sum(not says_a_policy(text) for text, _ in found))
+        self.assertGreater(min(changed, len(found) - changed), COUNT // 20)
 
     def test_converting_the_result_changes_nothing(self):
         found = self.accepted()
@@ -127,6 +132,37 @@ class ThroughTheArchive(Laws, unittest.TestCase):
 
 SHORT = b"procs\t1\ntask\t5\t1\t5\nend\t9\nrelease\t0\t1\n"
 SHORT_SAID = b"procs\t1\npolicy\tedf-cf\ntask\t5\t1\t5\nend\t9\nrelease\t0\t1\n"
+
+
+# Set B with end 10 and with returns, and what it is converted to.
+SET_B = (b"procs\t2\r\ntask\t15\t5\t9\r\ntask\t15\t5\t9\r\ntask\t15\t6\t10\r\nend\t10\r\n"
+         b"release\t0\t1\r\nrelease\t0\t2\r\nrelease\t0\t3\r\n")
+SET_B_SAID = (b"procs\t2\r\npolicy\tedf\ntask\t15\t5\t9\r\ntask\t15\t5\t9\r\ntask\t15\t6\t10\r\nend\t10\r\n"
+              b"release\t0\t1\r\nrelease\t0\t2\r\nrelease\t0\t3\r\n")
+
+# Set A with end 10, and what it is converted to.
+SET_A = (b"procs\t2\ntask\t10\t1\t4\ntask\t10\t1\t1\ntask\t10\t5\t5\nend\t10\n"
+         b"release\t0\t1\nrelease\t0\t2\nrelease\t0\t3\n")
+SET_A_SAID = (b"procs\t2\npolicy\tedf\ntask\t10\t1\t4\ntask\t10\t1\t1\ntask\t10\t5\t5\nend\t10\n"
+              b"release\t0\t1\nrelease\t0\t2\nrelease\t0\t3\n")
+
+# Each with the whole answer, into a room that starts as nines.
+WORKED = [
+    (SET_A, b"9" * 102, replay.accepted([98], SET_A_SAID + b"9999")),
+    (SET_B, b"9" * 111, replay.accepted([107], SET_B_SAID + b"9999")),
+    (SET_B_SAID, b"9" * 111, replay.accepted([107], SET_B_SAID + b"9999")),
+    (SET_B, b"9" * 106, replay.refused((13, 0), b"9" * 106)),
+]
+
+
+class Worked(unittest.TestCase):
+
+    def test_the_worked_sets_converted(self):
+        driven.hold_to(self, [("convert", (text, room)) for text, room, _ in WORKED], [answer for _, _, answer in WORKED])
+
+    def test_the_replay_says_the_same(self):
+        for text, room, answer in WORKED:
+            self.assertEqual(replay.convert(text, room), answer)
 
 
 class OfOneText(unittest.TestCase):
@@ -207,7 +243,7 @@ class Drawn(unittest.TestCase):
                    + b"end\t100000\r\n" + b"release\t99999\t32\r\n" * replay.MOST_RELEASES)
         self.assertLess(len(longest) + cases.ADDED, replay.LONGEST_TEXT)
         for drawn in cases.conversions("lengths", 1_000):
-            if replay.case_in(drawn.data)[0] is None:
+            if replay.convert(drawn.data, [0] * replay.LONGEST_TEXT).number == 0:
                 self.assertLessEqual(len(drawn.data), len(longest))
 
 
@@ -223,7 +259,7 @@ def put_in(text, line):
     return first + b"\n" + line + rest
 
 
-def says_the_new_default(text):
+def says_the_other_policy(text):
     return put_in(text, b"policy\tedf-cf\n")
 
 
@@ -271,11 +307,11 @@ def returned_policy_line_overlooked(text):
 
 
 def written_anew(text):
-    """The case that the text meant, in its canonical text."""
-    return replay.case_text(*replay.old_case_in(text)[1])
+    """The case that the text means, in its canonical text."""
+    return replay.case_text(*meant(text))
 
 
-WRONG_RESULTS = [says_the_new_default, line_ends_as_the_others, line_always_returned,
+WRONG_RESULTS = [says_the_other_policy, line_ends_as_the_others, line_always_returned,
                  return_of_the_procs_line_moved, returns_dropped, line_put_before_the_procs_line,
                  line_put_in_though_there_is_one, edf_cf_turned_to_edf, nothing_put_in,
                  returned_policy_line_overlooked, written_anew]

@@ -1,6 +1,5 @@
 """The sources keep the house rules that a machine can see, and the page that reads them aloud quotes them as they are."""
 
-import glob
 import os
 import re
 import unittest
@@ -14,11 +13,14 @@ NAMING = ("crates/rules/specs/Limits.antt", "crates/rules/src/lib.rt")
 
 
 def sources(kinds=(".rt", ".antt")):
-    """Each source of the crates by its path from the root."""
-    for path in sorted(glob.glob(os.path.join(kit.ROOT, "crates", "**", "*"), recursive=True)):
-        if path.endswith(kinds):
-            with open(path, encoding="utf-8") as file:
-                yield os.path.relpath(path, kit.ROOT), file.read()
+    """Each source of the crates by its path from the root; what `rt` keeps in out/ is none."""
+    found = []
+    for at, folders, files in os.walk(kit.CRATES):
+        folders[:] = [name for name in folders if name != "out"]
+        found += [os.path.join(at, name) for name in files if name.endswith(kinds)]
+    for path in sorted(found):
+        with open(path, encoding="utf-8") as file:
+            yield os.path.relpath(path, kit.ROOT), file.read()
 
 
 def wide_lines(text):

@@ -5,7 +5,6 @@ import contextlib
 import errno
 import fcntl
 import os
-import platform
 import random
 import re
 import subprocess
@@ -28,9 +27,8 @@ from test_program import PROGRAM, RUNNER, SCRIPT
 COUNT = 6_000
 ASKED = 240
 
-# What a log of 100 MB may bring the program's memory to, in bytes.  An emulator has its own beside it.
+# What a log of 100 MB may bring the program's memory to, in bytes.
 MOST_MEMORY = 16 * 2**20
-EMULATED = platform.machine() != "x86_64"
 
 # Each refusal that the check of a log can meet.
 NUMBERS = {0, 17, 18, 19, *cases.CASE_BREAKERS}
@@ -789,8 +787,7 @@ class OfAnyLength(test_program.OfTheProgram):
         print(f"a log of {length} bytes took {time.monotonic() - began:.1f} s and {peak} bytes of memory at the most")
         self.assertEqual((lines, said), (b"refused 19 0\n", b"thrumcomb: log: its number of lines is not the end\n"))
         self.assertGreater(length, 100_000_000)
-        if not EMULATED:
-            self.assertLess(peak, MOST_MEMORY)
+        self.assertLess(peak, MOST_MEMORY)
 
 
 if __name__ == "__main__":

@@ -13,25 +13,25 @@ import unittest
 from concurrent.futures import ThreadPoolExecutor
 
 import cases
+import kit
 import replay
 
 HERE = os.path.dirname(os.path.abspath(__file__))
 ROOT = os.path.dirname(HERE)
 RUNNER = os.path.join(ROOT, "bin", "exec")
-PROGRAM = os.path.join(ROOT, "target", "bin", "program")
+PROGRAM = kit.PROGRAM
 SCRIPT = os.path.join(ROOT, "thrumcomb")
 EXAMPLES = os.path.join(ROOT, "examples")
 
 DIGEST = os.path.join(ROOT, "bin", "digest")
 
-USAGE = b"""usage: thrumcomb [-q] [counts | slot N | write | convert | slots | log FILE] < CASE
+USAGE = b"""usage: thrumcomb [-q] [counts | slot N | write | slots | log FILE] < CASE
        thrumcomb help | -h | --help | --version
 
 without a word  the replay: run, a job line for each release, total
 counts          the contention-free count of each task
 slot N          the tasks that run in slot N
 write           the case in its canonical text
-convert         an older text, with the line `policy edf` put in where it has no policy line
 slots           the slot log of the replay: slot, time and the tasks that run, a line a slot
 log FILE        whether the slot log in FILE keeps the rules of the case: accepted, or refused
 -q              leaves out the words on standard error for a refused case or log
@@ -39,7 +39,6 @@ log FILE        whether the slot log in FILE keeps the rules of the case: accept
 A case that breaks a rule, or has a task that is never released, prints refused, number, place.
 Lines of a case and of a slot log end with a newline. One carriage return right before it is left
 out; anywhere else a return is badly formed. What is written has bare newlines.
-Without a policy line the policy is edf-cf; it was edf, so convert texts that are older.
 A slot log may break equal deadlines either way. In it a number of ten digits or with a leading
 zero is 17, a number that is no task of the table 18.
 The exit status is 0; 2 for a refused case or log; 64 for words that ask for nothing that there
@@ -84,21 +83,6 @@ job 0 3 5 met 5 -
 total 3 3 0 0
 """
 
-# The same case in an older text, in which no policy line meant EDF; some of its lines have a return.
-OLD_CASE = (b"procs\t2\r\ntask\t10\t1\t4\ntask\t10\t1\t1\r\ntask\t10\t5\t5\nend\t10\r\n"
-            b"release\t0\t1\nrelease\t0\t2\r\nrelease\t0\t3\r\n")
-
-CONVERTED_CASE = (b"procs\t2\r\npolicy\tedf\ntask\t10\t1\t4\ntask\t10\t1\t1\r\ntask\t10\t5\t5\nend\t10\r\n"
-                  b"release\t0\t1\nrelease\t0\t2\r\nrelease\t0\t3\r\n")
-
-# What the older text's replay printed, and its conversion's prints.
-OLD_LINES = b"""run edf 2 3 10
-job 0 1 4 met 1 -
-job 0 2 1 met 1 -
-job 0 3 5 missed - -
-total 3 2 1 0
-"""
-
 # The same case with no release of task 3.
 WITHOUT_TASK_3 = PRINTED_CASE.replace(b"release\t0\t3\n", b"")
 
@@ -112,14 +96,6 @@ WRONG_WORDS = [
     (["counts", ""], ""),
     (["counts", "3"], None),
     (["write", "write"], None),
-    (["convert", "3"], None),
-    (["convert", "convert"], None),
-    (["convert", "write"], None),
-    (["convert", "old.case"], "old.case"),
-    (["converts"], "converts"),
-    (["conver"], "conver"),
-    (["Convert"], "Convert"),
-    (["-q", "convert", "-q"], None),
     (["help", "help"], None),
     (["--hel"], "--hel"),
     (["-Q"], "-Q"),
@@ -192,8 +168,6 @@ def expected(words, text):
         return replay.slot_report(text, int(words[1]))
     if words[0] == "slots":
         return replay.slots_report(text)
-    if words[0] == "convert":
-        return replay.convert_report(text)
     return replay.write_report(text)
 
 
@@ -201,9 +175,7 @@ class OfTheProgram(unittest.TestCase):
 
     @classmethod
     def setUpClass(cls):
-        if not os.access(PROGRAM, os.X_OK):
-            raise AssertionError("target/bin/program is missing: "
-                                 "run `rt check program` first")
+        kit.program()
 
     def assertPrints(self, words, text, lines):
         self.assertEqual(printed(words, text), (lines, said_of(lines)), (words, text[:2000]))
@@ -240,26 +212,13 @@ class Printed(OfTheProgram):
     def test_the_text_written_back(self):
         self.assertPrints(["write"], PRINTED_CASE, PRINTED_CASE)
         without = PRINTED_CASE.replace(b"policy\tedf-cf\n", b"")
-        self.assertPrints(["write"], without, PRINTED_CASE)
-        self.assertPrints([], without, PRINTED_LINES)
-
-    def test_an_old_text_converted(self):
-        self.assertPrints(["convert"], OLD_CASE, CONVERTED_CASE)
-        self.assertPrints(["convert"], CONVERTED_CASE, CONVERTED_CASE)
-        self.assertPrints(["convert"], PRINTED_CASE, PRINTED_CASE)
-        returned = PRINTED_CASE.replace(b"\n", b"\r\n")
-        self.assertPrints(["convert"], returned, returned)
-
-    def test_an_old_text_before_and_after(self):
-        """What it means now, and once it is converted what it meant."""
-        self.assertPrints([], OLD_CASE, PRINTED_LINES)
-        self.assertPrints([], CONVERTED_CASE, OLD_LINES)
-        self.assertPrints(["write"], CONVERTED_CASE, PRINTED_CASE.replace(b"edf-cf", b"edf"))
+        self.assertPrints(["write"], without,
+                          PRINTED_CASE.replace(b"edf-cf", b"edf"))
 
     def test_a_refused_case_is_refused_in_every_way(self):
         for text, line in [(PRINTED_CASE.replace(b"procs\t2", b"procs\t33"), b"refused 4 0\n"),
                            (WITHOUT_TASK_3, b"refused 16 3\n")]:
-            for words in [[], ["counts"], ["slot", "0"], ["slot", "99"], ["slots"], ["write"], ["convert"]]:
+            for words in [[], ["counts"], ["slot", "0"], ["slot", "99"], ["slots"], ["write"]]:
                 self.assertPrints(words, text, line)
 
     def test_a_task_without_a_release(self):
@@ -287,17 +246,6 @@ class Printed(OfTheProgram):
             self.assertPrints([], text, lines)
             self.assertEqual(lines, replay.report(text), name)
 
-    def test_every_example_of_a_conversion(self):
-        """CASE.converted is what `convert` prints of CASE.case, and means what that meant."""
-        found = sorted(glob.glob(os.path.join(EXAMPLES, "*.converted")))
-        self.assertGreater(len(found), 0)
-        for name in found:
-            text, result = contents(name[:-len("converted")] + "case"), contents(name)
-            self.assertPrints(["convert"], text, result)
-            self.assertPrints(["convert"], result, result)
-            self.assertNotEqual(text, result, name)
-            self.assertEqual(replay.case_in(result), replay.old_case_in(text), name)
-
     def test_every_example_of_a_log(self):
         """CASE.log or CASE.WORDS.log, with what is printed of it beside it."""
         found = sorted(glob.glob(os.path.join(EXAMPLES, "*.log")))
@@ -323,7 +271,7 @@ class Words(OfTheProgram):
 
     def test_quiet(self):
         refused = PRINTED_CASE.replace(b"procs\t2", b"procs\t33")
-        for words in [[], ["counts"], ["slot", "0"], ["write"], ["convert"]]:
+        for words in [[], ["counts"], ["slot", "0"], ["write"]]:
             for asked in [["-q", *words], [*words, "-q"]]:
                 self.assertEqual(printed(asked, refused), (b"refused 4 0\n", b""), asked)
                 self.assertEqual(printed(asked, WITHOUT_TASK_3), (b"refused 16 3\n", b""), asked)
@@ -393,13 +341,12 @@ class InAndOut(OfTheProgram):
         whole = cases.text_of(cases.longest_text_case())
         for text in [b"x" * 60_001, b"\n" * 65_536, whole + b"\n" * 60_001,
                      b"\0" * 1_000_000]:
-            for words in [[], ["counts"], ["slot", "0"], ["slots"], ["write"], ["convert"]]:
+            for words in [[], ["counts"], ["slot", "0"], ["slots"], ["write"]]:
                 self.assertPrints(words, text, b"refused 1 0\n")
 
     def test_just_the_most_in(self):
         self.assertPrints([], b"x" * 60_000, b"refused 2 1\n")
         self.assertPrints([], b"x" * 59_999 + b"\n", b"refused 2 1\n")
-        self.assertPrints(["convert"], b"x" * 60_000, b"refused 2 1\n")
 
     def test_nothing_is_printed_before_the_input_ends(self):
         # A refusal that only the last line brings is the only line.
@@ -432,24 +379,20 @@ class InAndOut(OfTheProgram):
             self.assertEqual((done.stdout, done.stderr),
                              (b"", b"thrumcomb: read: " + why + b"\n"), end)
 
-    def test_how_it_ended_is_told_on_descriptor_3(self):
-        told = ("sh", "-c", 'exec "$0" "$@" 3>&1 >/dev/null 2>&1', RUNNER, PROGRAM)
+    def test_how_it_ended_is_its_exit_status(self):
         for words, text, outcome in [
-                ([], PRINTED_CASE, b"0"), (["help"], b"", b"0"), ([], b"", b"2"),
-                (["slot", "10"], PRINTED_CASE, b"2"), ([], WITHOUT_TASK_3, b"2"),
-                (["convert"], OLD_CASE, b"0"), (["convert"], WITHOUT_TASK_3, b"2"),
-                (["nothing"], PRINTED_CASE, b"64"), (["convert", "1"], OLD_CASE, b"64")]:
-            self.assertEqual(run(words, text, told).stdout, outcome, words)
-        failed = ("sh", "-c", 'exec "$0" "$@" 3>&1 >/dev/full 2>&1', RUNNER, PROGRAM)
-        for words in [[], ["help"], ["convert"]]:
-            self.assertEqual(run(words, PRINTED_CASE, failed).stdout, b"1", words)
+                ([], PRINTED_CASE, 0), (["help"], b"", 0), ([], b"", 2),
+                (["slot", "10"], PRINTED_CASE, 2), ([], WITHOUT_TASK_3, 2),
+                (["nothing"], PRINTED_CASE, 64)]:
+            self.assertEqual(run(words, text).returncode, outcome, words)
+        failed = ("sh", "-c", 'exec "$0" "$@" >/dev/full 2>&1', RUNNER, PROGRAM)
+        for words in [[], ["help"]]:
+            self.assertEqual(run(words, PRINTED_CASE, failed).returncode, 1, words)
 
     def test_the_longest_output(self):
         case = cases.longest_text_case()
         text = cases.text_of(case)
-        old = cases.text_of(case, with_policy=False)
-        self.assertAllPrint([([], text), (["write"], text), (["convert"], text), (["convert"], old),
-                             (["convert"], old.replace(b"\n", b"\r\n"))])
+        self.assertAllPrint([([], text), (["write"], text)])
 
 
 class AgainstTheReplay(OfTheProgram):
@@ -462,12 +405,6 @@ class AgainstTheReplay(OfTheProgram):
         ways = [["counts"], ["write"], ["slot", "0"], ["slot", "3"], ["slots"]]
         found = [(ways[at % 5], text.data)
                  for at, text in enumerate(cases.texts("program words", 200))]
-        self.assertAllPrint(found)
-
-    def test_conversions(self):
-        found = [(["convert"], drawn.data) for drawn in cases.conversions("program", 250)]
-        refused = sum(replay.convert_report(text).startswith(b"refused") for _, text in found)
-        self.assertGreater(min(refused, len(found) - refused), 50)
         self.assertAllPrint(found)
 
     def test_legal_cases(self):
@@ -517,19 +454,14 @@ class Script(OfTheProgram):
                         b"count 1 1\ncount 2 0\ncount 3 2\n")
         self.assertEnds(["slot", "9"], PRINTED_CASE, 0, b"running 9\n")
         self.assertEnds(["write"], PRINTED_CASE, 0, PRINTED_CASE)
-        for words in [["convert"], ["-q", "convert"], ["convert", "-q"]]:
-            self.assertEnds(words, OLD_CASE, 0, CONVERTED_CASE)
 
     def test_a_refused_case(self):
         self.assertEnds([], b"", 2, b"refused 3 1\n")
         self.assertEnds(["slot", "10"], PRINTED_CASE, 2, b"refused 15 0\n")
         self.assertEnds(["write"], b"procs\n", 2, b"refused 2 1\n")
-        for words in [[], ["counts"], ["slot", "0"], ["slot", "10"], ["write"], ["convert"]]:
+        for words in [[], ["counts"], ["slot", "0"], ["slot", "10"], ["write"]]:
             self.assertEnds(words, WITHOUT_TASK_3, 2, b"refused 16 3\n")
             self.assertEnds(["-q", *words], WITHOUT_TASK_3, 2, b"refused 16 3\n", b"")
-        self.assertEnds(["convert", "-q"], WITHOUT_TASK_3, 2, b"refused 16 3\n", b"")
-        self.assertEnds(["convert"], OLD_CASE[:-1], 2, b"refused 2 8\n", b"thrumcomb: line 8: badly formed\n")
-        self.assertEnds(["convert"], b"x" * 60_001, 2, b"refused 1 0\n", b"thrumcomb: text: over 60,000 bytes\n")
         self.assertEnds(["-q"], b"", 2, b"refused 3 1\n", b"")
         self.assertEnds(["slot", "10", "-q"], PRINTED_CASE, 2, b"refused 15 0\n", b"")
 
@@ -551,15 +483,8 @@ class Script(OfTheProgram):
         self.assertFails("</", b"read: Is a directory")
         self.assertFails("<&-", b"read: Bad file descriptor")
         self.assertFails("<&-", b"read: Bad file descriptor", "slot 0 -q")
-        self.assertFails("</", b"read: Is a directory", "convert")
-        self.assertFails("<&-", b"read: Bad file descriptor", "convert -q")
 
     def test_an_input_that_fails_in_the_middle(self):
-        for words in [[], ["convert"], ["convert", "-q"]]:
-            self.assertEqual(self.ended_after_a_failing_read(words),
-                             (1, b"", b"thrumcomb: read: Input/output error\n"), words)
-
-    def ended_after_a_failing_read(self, words):
         # What is written into a terminal is read at its other end, and then a
         # read fails, since nobody holds the terminal any more. What came
         # before is an accepted case, of which nothing may be printed.
@@ -567,12 +492,13 @@ class Script(OfTheProgram):
         tty.setraw(terminal)
         os.write(terminal, PRINTED_CASE)
         os.close(terminal)
-        done = subprocess.run([SCRIPT, *words], stdin=ours, capture_output=True, timeout=60)
+        done = subprocess.run([SCRIPT], stdin=ours, capture_output=True, timeout=60)
         os.close(ours)
-        return done.returncode, done.stdout, done.stderr
+        self.assertEqual((done.returncode, done.stdout, done.stderr),
+                         (1, b"", b"thrumcomb: read: Input/output error\n"))
 
     def test_an_output_that_cannot_be_written(self):
-        for words in ["", "counts", "write -q", "convert", "-q convert", "help"]:
+        for words in ["", "counts", "write -q", "help"]:
             self.assertFails('<"$1" >&-', b"write: Bad file descriptor", words)
             self.assertFails('<"$1" >/dev/full', b"write: No space left on device", words)
 
@@ -597,45 +523,6 @@ class Script(OfTheProgram):
         self.assertEqual((done.returncode, done.stderr), (0, b""))
         self.assertEqual(done.stdout.decode(),
                          f"thrumcomb {version}\nsources sha256 {digest_of(ROOT)}\n")
-
-
-def folder_command():
-    """The shell command of README.md that converts a folder of older texts."""
-    with open(os.path.join(ROOT, "README.md"), encoding="utf-8") as page:
-        found = [line.strip() for line in page if line.strip().startswith("for f in old/")]
-    if len(found) != 1:
-        raise AssertionError(f"README.md has {len(found)} lines that convert the texts in old/")
-    return found[0]
-
-
-class Folder(OfTheProgram):
-    """The command of README.md over a folder of older texts, one of which is refused."""
-
-    OLD = {"a.case": OLD_CASE, "b c.case": PRINTED_CASE, "bare.case": cases.without_returns(OLD_CASE),
-           "cut.case": OLD_CASE[:-1], "notes.txt": b"procs\t2\n"}
-
-    def converted(self, folder):
-        """What the command says, and the texts that it leaves in new/."""
-        for name in ("old", "new"):
-            os.mkdir(os.path.join(folder, name))
-        for name, text in self.OLD.items():
-            with open(os.path.join(folder, "old", name), "wb") as file:
-                file.write(text)
-        os.symlink(SCRIPT, os.path.join(folder, "thrumcomb"))
-        done = subprocess.run(["bash", "-c", folder_command()], cwd=folder, stdin=subprocess.DEVNULL,
-                              capture_output=True, timeout=120)
-        left = {name: contents(os.path.join(folder, "new", name))
-                for name in os.listdir(os.path.join(folder, "new"))}
-        return done.stdout, done.stderr, left
-
-    def test_a_folder_of_old_texts(self):
-        with tempfile.TemporaryDirectory() as folder:
-            said, errors, left = self.converted(folder)
-            for name, text in self.OLD.items():
-                self.assertEqual(contents(os.path.join(folder, "old", name)), text, name)
-        self.assertEqual((said, errors), (b"old/cut.case: not converted\n", b"thrumcomb: line 8: badly formed\n"))
-        self.assertEqual(left, {"a.case": CONVERTED_CASE, "b c.case": PRINTED_CASE,
-                                "bare.case": cases.without_returns(CONVERTED_CASE), "cut.case": b"refused 2 8\n"})
 
 
 def digest_of(folder):
@@ -693,7 +580,7 @@ class Digest(unittest.TestCase):
 
     def test_what_is_not_proved_does_not(self):
         first = self.digest()
-        for name in ["README.md", "crates/a/must-fail/x.edit", "target/bin/program"]:
+        for name in ["README.md", "crates/a/must-fail/x.edit", "crates/b/out/b"]:
             self.write(name, b"changed")
             self.assertEqual(self.digest(), first, name)
 
@@ -709,7 +596,7 @@ class Protocol(unittest.TestCase):
             os.makedirs(os.path.dirname(path), exist_ok=True)
             shutil.copy(os.path.join(ROOT, name), path)
         self.script = os.path.join(self.folder, "thrumcomb")
-        self.put("target/bin/program", "")
+        self.put("crates/program/out/program", "")
 
     def put(self, name, text):
         path = os.path.join(self.folder, name)
@@ -723,15 +610,15 @@ class Protocol(unittest.TestCase):
         done = subprocess.run([self.script], input=b"", capture_output=True, timeout=60)
         return done.returncode, done.stdout, done.stderr
 
-    def test_the_outcome_is_the_status(self):
+    def test_the_program_s_status_is_given(self):
         for outcome in [0, 1, 2, 64]:
-            self.assertEqual(self.run_over(f"echo line; printf {outcome} >&3"),
+            self.assertEqual(self.run_over(f"echo line; exit {outcome}"),
                              (outcome, b"line\n", b""))
 
-    def test_no_outcome_or_an_odd_one_is_a_failure(self):
+    def test_an_odd_status_is_a_failure(self):
         said = b"thrumcomb: the program did not come to its end\n"
-        for text in ["echo line", "echo line; printf 7 >&3", "echo line; printf 00 >&3",
-                     "echo line; printf 0 >&3; exit 3", "echo line; kill -9 $$"]:
+        for text in ["echo line; exit 7", "echo line; exit 3", "echo line; exit 134", "echo line; exit 255",
+                     "echo line; kill -9 $$", "echo line; kill -ABRT $$"]:
             status, lines, errors = self.run_over(text)
             self.assertEqual((status, lines), (1, b"line\n"), text)
             self.assertTrue(errors.endswith(said), text)
@@ -739,7 +626,7 @@ class Protocol(unittest.TestCase):
     def test_what_is_printed_comes_at_once(self):
         # The program waits for its input to end after its first line; the
         # script could not hand that line on if it held what is printed.
-        self.put("bin/exec", "echo first; cat >/dev/null; echo last; printf 0 >&3")
+        self.put("bin/exec", "echo first; cat >/dev/null; echo last")
         with subprocess.Popen([self.script], stdin=subprocess.PIPE,
                               stdout=subprocess.PIPE) as running:
             self.assertEqual(running.stdout.readline(), b"first\n")
@@ -756,17 +643,22 @@ class Protocol(unittest.TestCase):
         return done.returncode, done.stdout, done.stderr
 
     def test_the_version_of_sources_that_changed_since(self):
-        status, lines, errors = self.version("echo 'rt: program proved (38 s)'")
+        status, lines, errors = self.version("echo 'logic=proved functions=9' >&2; echo usage")
         self.assertEqual((status, lines.split()[0]), (0, b"thrumcomb"))
         self.assertIn(b"had changed", errors)
 
+    def test_the_version_of_sources_that_did_not_change(self):
+        status, lines, errors = self.version("echo 'rt: nothing has changed since the last proved build, by "
+                                             "out/program.stamp, so nothing is checked now' >&2; echo usage")
+        self.assertEqual((status, lines.split()[0], errors), (0, b"thrumcomb", b""))
+
     def test_no_version_where_the_sources_are_not_proved(self):
-        status, lines, errors = self.version("echo 'program NOT PROVED'; exit 1")
+        status, lines, errors = self.version("echo 'logic=not-proved' >&2; exit 1")
         self.assertEqual((status, lines), (1, b""))
         self.assertIn(b"not proved", errors)
 
     def test_no_version_of_sources_that_change_meanwhile(self):
-        status, lines, errors = self.version("echo '# more' >> crates.txt")
+        status, lines, errors = self.version("echo '# more' >> ../../crates.txt")
         self.assertEqual((status, lines), (1, b""))
         self.assertIn(b"changed while", errors)
 

@@ -332,13 +332,9 @@ class Printed(unittest.TestCase):
                     b"job 0 3 5 missed - -\n"
                     b"total 3 2 1 0\n")
         named = PRINTED_CASE.replace(b"edf-cf", b"edf")
-        self.assertEqual(replay.report(named), expected)
-
-    def test_the_same_without_a_policy_line(self):
-        """EDF-CF, by request P6; before it, what stands above."""
         absent = PRINTED_CASE.replace(b"policy\tedf-cf\n", b"")
-        self.assertNotIn(b"policy", absent)
-        self.assertEqual(replay.report(absent), PRINTED_REPORT)
+        self.assertEqual(replay.report(named), expected)
+        self.assertEqual(replay.report(absent), expected)
 
     def test_an_open_job(self):
         text = (b"procs\t2\npolicy\tedf-cf\ntask\t15\t5\t9\ntask\t15\t5\t9\n"
@@ -352,10 +348,9 @@ class Printed(unittest.TestCase):
                          b"total 3 2 0 1\n")
 
     def test_a_single_release(self):
-        # Its free count is 5 - 5 div 2 = 3, so under EDF-CF it is demoted at 0.
         text = b"procs\t1\ntask\t5\t1\t5\nend\t1\nrelease\t0\t1\n"
         self.assertEqual(replay.report(text),
-                         b"run edf-cf 1 1 1\njob 0 1 5 met 1 0\ntotal 1 1 0 0\n")
+                         b"run edf 1 1 1\njob 0 1 5 met 1 -\ntotal 1 1 0 0\n")
 
     def test_counts(self):
         self.assertEqual(replay.counts_report(PRINTED_CASE),
@@ -372,7 +367,8 @@ class Printed(unittest.TestCase):
     def test_written_back(self):
         self.assertEqual(replay.write_report(PRINTED_CASE), PRINTED_CASE)
         absent = PRINTED_CASE.replace(b"policy\tedf-cf\n", b"")
-        self.assertEqual(replay.write_report(absent), PRINTED_CASE)
+        self.assertEqual(replay.write_report(absent),
+                         PRINTED_CASE.replace(b"edf-cf", b"edf"))
 
     def test_refusals_are_one_line(self):
         for text, expected in [
@@ -395,7 +391,6 @@ class Printed(unittest.TestCase):
                 self.assertEqual(replay.slot_report(text, 0), expected)
                 self.assertEqual(replay.slot_report(text, 2**32 - 1), expected)
                 self.assertEqual(replay.write_report(text), expected)
-                self.assertEqual(replay.convert_report(text), expected)
 
 
 # ---------------------------------------------------------------------------
@@ -870,11 +865,11 @@ class RefusedTexts(Checks):
             answer = replay.read_case(text, roomy(96), roomy(4_000))
             self.assertAccepted(answer, [2, EDF_CF, 10, 3, 3], SET_A + roomy(96)[9:], ALL_THREE + roomy(4_000)[6:])
 
-    def test_without_a_policy_line_the_policy_is_edf_cf(self):
+    def test_without_a_policy_line_the_policy_is_edf(self):
         text = (b"procs\t32\ntask\t10000\t1\t10000\nend\t100000\n"
                 b"release\t99999\t1\n")
         answer = replay.read_case(text, roomy(96), roomy(4_000))
-        self.assertAccepted(answer, [32, EDF_CF, 100_000, 1, 1],
+        self.assertAccepted(answer, [32, EDF, 100_000, 1, 1],
                             [10_000, 1, 10_000] + roomy(96)[3:],
                             [99_999, 1] + roomy(4_000)[2:])
 
@@ -1127,7 +1122,7 @@ class RandomInputs(Checks):
                 self.assertEqual(written, data)
             else:
                 procs, rest = data.split(b"\n", 1)
-                self.assertEqual(written, procs + b"\npolicy\tedf-cf\n" + rest)
+                self.assertEqual(written, procs + b"\npolicy\tedf\n" + rest)
         self.assertGreater(min(accepted - returned, returned), 50)
 
     def test_same_seed_same_inputs(self):

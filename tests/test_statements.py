@@ -14,6 +14,8 @@ import os
 import re
 import unittest
 
+import kit
+
 ROOT = os.path.dirname(os.path.dirname(os.path.abspath(__file__)))
 PAGE = os.path.join(ROOT, "docs", "STATEMENTS.md")
 OTHER_PAGES = ("README.md", "CONTRIBUTING.md", "docs/DECISIONS.md", "docs/READING.md")
@@ -81,8 +83,6 @@ def path_of(token):
     if token.startswith(("tests/", "examples/", "docs/", "bench/")):
         return token
     path = os.path.join("crates", token)
-    if re.fullmatch(r"\w+/proofs/\w+", token):
-        return os.path.join(path, "Proof.antt")
     if re.fullmatch(r"\w+/must-fail/\w+", token):
         return path + ".edit"
     return path
@@ -90,6 +90,27 @@ def path_of(token):
 
 def exists(path):
     return os.path.exists(os.path.join(ROOT, path))
+
+
+def is_proof(token):
+    """Whether the page names the proof of a function."""
+    return re.fullmatch(r"\w+/proofs/\w+", token) is not None
+
+
+def proof_stands(token):
+    """Whether there is such a proof: what is written of it in the function's folder; or, without one, all of it is found by the check
+    from the function's contract."""
+    crate, _, name = token.split("/")
+    if any(exists(os.path.join("crates", token, file)) for file in ("Proof.antt", "Answers.antt", "Invariants.antt")):
+        return True
+    sources = glob.glob(os.path.join(ROOT, "crates", crate, "src", "*.rt"))
+    return any(has_contract(text_of(path), name) for path in sources)
+
+
+def has_contract(source, name):
+    """Whether a function stands in the text of a source with a clause that says what it returns or leaves."""
+    found = re.search(rf"^ *(?:pub )?(?:extern \"C\" )?fn {name}\b(?:(?!\bfn ).)*?(?:^ *\{{$| \{{$)", source, re.MULTILINE | re.DOTALL)
+    return found is not None and stands_in("ensures", found.group(0))
 
 
 def text_of(path):
@@ -147,7 +168,7 @@ class Statements(unittest.TestCase):
         for row in rows():
             for token in filter(is_path, row.all_tokens()):
                 with self.subTest(line=row.number, path=token):
-                    self.assertTrue(exists(path_of(token)))
+                    self.assertTrue(proof_stands(token) if is_proof(token) else exists(path_of(token)))
 
     def test_every_name_is_declared_in_a_file_of_its_row(self):
         for row in rows():
@@ -172,7 +193,7 @@ class Statements(unittest.TestCase):
                         continue
                     crate, kind, name = token.split("/")
                     self.assertIn(kind, ("proofs", "specs"))
-                    if kind == "proofs":
+                    if kind == "proofs" and not name.endswith(".antt"):
                         sources = glob.glob(os.path.join(ROOT, "crates", crate, "src", "*.rt"))
                         self.assertTrue(any(declares(path, name) for path in sources))
                     elif token in row.tokens("File"):
@@ -296,8 +317,7 @@ class Assumed(unittest.TestCase):
         self.assertEqual(set(said), set(programs))
         for name, count in said.items():
             with self.subTest(program=name):
-                check = text_of(os.path.join("target", "log", name + ".say"))
-                found = re.search(r"^logic=proved .*?axioms=(\d+)", check, re.MULTILINE)
+                found = re.search(r"^logic=proved .*?axioms=(\d+)", kit.check_of(name), re.MULTILINE)
                 self.assertEqual(found and found.group(1), count)
 
     def test_no_public_call_reaches_a_c_function(self):
@@ -305,7 +325,7 @@ class Assumed(unittest.TestCase):
         for line in text_of("crates.txt").splitlines():
             name, colon, others = line.partition("#")[0].partition(":")
             if colon:
-                needs[name.strip()] = others.split()
+                needs[name.split()[0]] = others.split()
         reached, left = set(), ["thrumcomb"]
         while left:
             name = left.pop()
@@ -313,6 +333,13 @@ class Assumed(unittest.TestCase):
             left += [other for other in needs.get(name, []) if other not in reached]
         self.assertLessEqual({"counts", "engine", "reader", "writer", "converter"}, reached)
         self.assertFalse(reached & {"libc", "io", "os"})
+
+    def test_no_public_call_assumes_anything_of_c(self):
+        """Every crate has std, and so C's functions at hand: the check of the archive says that none is reached."""
+        check = kit.check_of("thrumcomb")
+        proved, = re.findall(r"^logic=proved .*", check, re.MULTILINE)
+        self.assertNotIn("axioms=", proved)
+        self.assertRegex(check, r"(?m)^axioms libc: none reached")
 
 
 class TheChecks(unittest.TestCase):
@@ -324,12 +351,12 @@ class TheChecks(unittest.TestCase):
 
     def test_a_name_that_is_only_used_is_not_declared(self):
         counts = "crates/rules/specs/Counts.antt"
-        self.assertTrue(declares(counts, "freeCount"))
-        self.assertFalse(declares(counts, "taskCount"))
+        self.assertTrue(declares(counts, "free_count"))
+        self.assertFalse(declares(counts, "task_count"))
         self.assertTrue(declares("crates/counts/src/lib.rt", "counts"))
         self.assertFalse(declares("crates/counts/src/lib.rt", "CountsPromise"))
         self.assertTrue(declares("crates/rules/src/lib.rt", "Demoted"))
-        self.assertFalse(declares("crates/theory/specs/Demand3.antt", "free-slot"))
+        self.assertFalse(declares("crates/theory/specs/Demand3.antt", "free_slot"))
 
     def test_names_and_paths_of_a_page_are_found(self):
         page = "`..` `a`, `b-c` and `d` in\n`crates/e/src`, `docs/landings/Pn.md`, `f` of `bench/run`"
@@ -339,7 +366,16 @@ class TheChecks(unittest.TestCase):
     def test_a_name_of_a_crate_is_declared_in_one_of_its_sources(self):
         sources = sources_of("crates/counts")
         self.assertTrue(any(declares(path, "counts") for path in sources))
-        self.assertFalse(any(declares(path, "caseFault") for path in sources))
+        self.assertFalse(any(declares(path, "case_fault") for path in sources))
+
+    def test_a_proof_that_is_gone_would_be_noticed(self):
+        self.assertTrue(proof_stands("counts/proofs/count_of"))
+        self.assertFalse(proof_stands("counts/proofs/no_such_function"))
+
+    def test_a_function_without_a_contract_has_no_proof(self):
+        source = ("fn plain(x: u32) -> u32 {\n    x\n}\n\npub fn next(x: u32) -> u32\n    ensures { result ≡ x }\n{\n    x\n}\n\n"
+                  "fn last(x: u32) -> u32\n    requires { x ≤ 3 }\n{\n    x\n}\n")
+        self.assertEqual([has_contract(source, name) for name in ("plain", "next", "last", "nex")], [False, True, False, False])
 
     def test_a_contract_ends_where_the_body_starts(self):
         contract = contract_of("crates/counts/src/lib.rt", "counts")

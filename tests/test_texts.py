@@ -25,7 +25,7 @@ def rewritten(text):
     first, rest = bare.split(b"\n", 1)
     if rest.startswith(b"policy\t"):
         return bare
-    return first + b"\npolicy\tedf-cf\n" + rest
+    return first + b"\npolicy\tedf\n" + rest
 
 
 def text_written(answer):

@@ -1,10 +1,10 @@
 """The entries of document 01, "Worked by hand", made through the archive and by the program.
 
-Each entry holds the numbers that document 01 gives, and where a request (P1,
-P3, P6) changed them those of the request: the whole answer of the call and
-every lent room, which is longer than the answer needs and starts as nines, so
-that the numbers and bytes past it show too; and what the program prints for
-the same case.  replay.py gives the same answers.
+Each entry holds the numbers that document 01 gives, and where request P1
+changed them those of the request: the whole answer of the call and every lent
+room, which is longer than the answer needs and starts as nines, so that the
+numbers and bytes past it show too; and what the program prints for the same
+case.  replay.py gives the same answers.
 """
 
 import glob
@@ -15,11 +15,11 @@ from collections import namedtuple
 
 import cases
 import driven
+import kit
 import replay
-from kit import ROOT
+from kit import PROGRAM, ROOT
 from replay import EDF, EDF_CF, accepted, refused
 
-PROGRAM = os.path.join(ROOT, "target", "bin", "program")
 EXAMPLES = os.path.join(ROOT, "examples")
 
 SET_A = [10, 1, 4, 10, 1, 1, 10, 5, 5]
@@ -28,12 +28,6 @@ ALL_AT_0 = [0, 1, 0, 2, 0, 3]
 
 TEXT_A = (b"procs\t2\npolicy\tedf-cf\ntask\t10\t1\t4\ntask\t10\t1\t1\ntask\t10\t5\t5\nend\t10\n"
           b"release\t0\t1\nrelease\t0\t2\nrelease\t0\t3\n")
-
-# Set B in an older text with returns, and converted: there no policy line meant EDF.
-OLD_B = (b"procs\t2\r\ntask\t15\t5\t9\r\ntask\t15\t5\t9\r\ntask\t15\t6\t10\r\nend\t10\r\n"
-         b"release\t0\t1\r\nrelease\t0\t2\r\nrelease\t0\t3\r\n")
-CONVERTED_B = (b"procs\t2\r\npolicy\tedf\ntask\t15\t5\t9\r\ntask\t15\t5\t9\r\ntask\t15\t6\t10\r\nend\t10\r\n"
-               b"release\t0\t1\r\nrelease\t0\t2\r\nrelease\t0\t3\r\n")
 
 # A call and its answer; the words and the text that the program gets, and what it prints; the name of the case in examples/, or None.
 Entry = namedtuple("Entry", "call answer words text printed example")
@@ -173,31 +167,8 @@ def returns():
                 ["write"], text, TEXT_A, None)
 
 
-def no_policy_line():
-    """Set A without its policy line (request P6): EDF-CF, under which task 3 meets. In document 01 it was EDF, under which it misses."""
-    tasks, releases = list(range(96)), list(range(4_000))
-    text = TEXT_A.replace(b"policy\tedf-cf\n", b"")
-    yield Entry(("read_case", (text, tasks, releases)),
-                accepted([2, 1, 10, 3, 3], SET_A + tasks[9:], ALL_AT_0 + releases[6:]), [], text, content("set-a-edf-cf.out"),
-                "no-policy-line")
-    yield Entry(("convert", (text, b"9" * 102)), accepted([98], TEXT_A.replace(b"edf-cf", b"edf") + b"9999"),
-                ["convert"], text, content("set-a-edf.case"), None)
-
-
-def an_old_text():
-    """Set B with end 10 in an older text with returns (request P6): EDF-CF as it stands, EDF once it is converted."""
-    tasks, releases = list(range(96)), list(range(4_000))
-    for text, policy, printed, example in [(OLD_B, EDF_CF, "set-b-end-10-edf-cf.out", "old-set-b-returns"),
-                                           (CONVERTED_B, EDF, "set-b-end-10-edf.out", None)]:
-        yield Entry(("read_case", (text, tasks, releases)),
-                    accepted([2, policy, 10, 3, 3], SET_B + tasks[9:], ALL_AT_0 + releases[6:]), [], text, content(printed), example)
-        yield Entry(("convert", (text, b"9" * 111)), accepted([107], CONVERTED_B + b"9999"),
-                    ["convert"], text, content("old-set-b-returns.converted"), None)
-    yield Entry(("convert", (OLD_B, b"9" * 106)), refused((13, 0), b"9" * 106), ["convert"], OLD_B, CONVERTED_B, None)
-
-
 LINES = [availability_through_counts, set_a, set_b, one_task, larger_count, two_tasks, no_release, task_without_release, separation,
-         the_case_text, returns, no_policy_line, an_old_text]
+         the_case_text, returns]
 
 
 class WorkedByHand(unittest.TestCase):
@@ -216,7 +187,7 @@ class WorkedByHand(unittest.TestCase):
                     self.assertEqual(getattr(replay, name)(*args), entry.answer)
 
     def test_worked_by_the_program(self):
-        self.assertTrue(os.access(PROGRAM, os.X_OK), "target/bin/program is missing: run `rt check program` first")
+        kit.program()
         for line in LINES:
             for entry in line():
                 with self.subTest(line=line.__name__, words=entry.words):
@@ -231,11 +202,6 @@ class WorkedByHand(unittest.TestCase):
         self.assertEqual(set(worked), there)
         for name, text in worked.items():
             self.assertEqual(content(name + ".case"), text, name)
-
-    def test_the_converted_examples_are_the_worked_ones(self):
-        there = {os.path.basename(path) for path in glob.glob(os.path.join(EXAMPLES, "*.converted"))}
-        self.assertEqual(there, {"old-set-b-returns.converted"})
-        self.assertEqual(content("old-set-b-returns.converted"), CONVERTED_B)
 
 
 if __name__ == "__main__":

@@ -1,6 +1,6 @@
 -- The words for a log's slot, for a person to read: which part of the rule it breaks, and by which tasks (request P2, refusal 18; the
 -- words are the project's own). The run is as it stands after steps 1 to 3 of the slot, so that its jobs are those that were chosen from.
-use Rattle.std.specs.Prelude.{ℕ, ◌-◌, min, ◌≡◌, Bool, false, ◌&&◌, not, List, ◌++◌, eqb, get_or}
+use Rattle.std.specs.Prelude.{ℕ, ◌-◌, min, ◌≡◌, Bool, ◌&&◌, not, List, ◌++◌, eqb}
 use Rattle.lists.specs.Lists.{members}
 use Rattle.rules.specs.Words.{pick, count_in, first_in}
 use Rattle.rules.specs.Limits.{max_tasks}

@@ -1,22 +1,16 @@
 -- A line of a log read byte by byte, in a state that does not grow: what is left of the word, the time, and of the tasks the least number
 -- that would rise, whether they rise and are tasks, and their set; or what was heard before a return. At its end it has heard what
 -- `slot_says` of rules, Log, says: of its fields by LineHeard, with its return by Returned. For Feed.
-use Rattle.std.specs.Prelude.{◌≡◌, refl, Bool, true, false, ◌&&◌, ◌||◌, List, [], ◌∷◌, ◌++◌, ℕ, zero, suc, ◌+◌, ◌≤◌, ◌<◌, eqb, leb, ltb, length}
-use Rattle.std.proofs.Common.{sym, ap, ◌∙◌, arith}
-use Rattle.std.proofs.Math.Path.{fun_ext}
+use Rattle.std.specs.Prelude.{◌≡◌, refl, Bool, true, false, ◌&&◌, List, [], ◌∷◌, ◌++◌, ℕ, eqb}
+use Rattle.std.proofs.Common.{sym, ap, ◌∙◌}
 use Rattle.rules.specs.declared.Num.{Num}
 use Rattle.rules.specs.declared.Num.TheVariants as Num·
-use Rattle.rules.specs.declared.Run.{Run}
 use Rattle.rules.specs.Words.{pick}
-use Rattle.rules.specs.Limits.{max_tasks}
-use Rattle.rules.specs.Slot.{Setup, TaskSet}
-use Rattle.rules.specs.Text.{return_byte, tab_byte, same, has, field_of, after_field, number_in}
-use Rattle.rules.specs.Log.{LogLine, bad_line, slot_line, slot_word, tasks_of, fields_in, fields_of, with_value, with_numbers, time_and_tasks}
-use Rattle.rules.specs.Log.{slot_fields, slot_says, rise_past, rising, well_formed, keeps_rule, set_named, name_tasks, slot_stands}
+use Rattle.rules.specs.Slot.{TaskSet}
+use Rattle.rules.specs.Text.{return_byte, tab_byte, same, has}
 use Rattle.lists.specs.Lists.{picked}
 use Rattle.texts.specs.Fields.{without_head}
-use Rattle.feeds.specs.Alike.{within}
-use Rattle.feeds.specs.NumScan.{NumScan, num_bad, num_so_far, num_start, num_byte, num_all, num_end, num_bad_lem, num_scanned}
+use Rattle.feeds.specs.NumScan.{NumScan, num_bad, num_so_far, num_byte, num_all, num_end, num_bad_lem}
 use Rattle.feeds.specs.LineScan.{unread, wrong, in_word, in_time, in_task, returned, LineScan, at_start, time_at, task_at, after_time, after_task, field_byte, field_all, heard_bad, heard, Heard, heard_time, heard_task, line_end, after_return, at_return, scan_byte, scan_all}
 
 -- ---- scanning in two parts

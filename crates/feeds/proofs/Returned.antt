@@ -9,7 +9,6 @@ use Rattle.std.proofs.lemmas.Bool.{eqb-false}
 use Rattle.rules.specs.declared.Num.{Num}
 use Rattle.rules.specs.declared.Num.TheVariants as Num·
 use Rattle.rules.specs.Words.{pick}
-use Rattle.rules.specs.Slot.{TaskSet}
 use Rattle.rules.specs.Text.{newline_byte, return_byte, tab_byte, has, line_return, line_of}
 use Rattle.rules.specs.Log.{slot_word, slot_says}
 use Rattle.lists.specs.Lists.{picked}

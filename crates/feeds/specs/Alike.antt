@@ -3,7 +3,6 @@
 use Rattle.std.specs.Prelude.{◌≡◌, refl, Bool, true, false, ◌&&◌, ◌||◌, not, ℕ, zero, suc, min, ◌<◌, eqb, ltb}
 use Rattle.std.proofs.Common.{ap, ap₂, arith, lt-ltb}
 use Rattle.rules.specs.declared.Run.{Run}
-use Rattle.rules.specs.Words.{count_in, holds_below}
 use Rattle.rules.specs.Limits.{max_tasks}
 use Rattle.rules.specs.Slot.{Setup, TaskSet, job_at, present, jobs_now}
 use Rattle.rules.specs.Replay.{idle_task}

@@ -1,28 +1,19 @@
 -- The check of a log fed in pieces of any length: a state by value that does not grow with the log, a step for a byte, the law that two
 -- pieces one after the other are their join, and that the answer read off the state is `log_answer` of rules, Log.
-use Rattle.std.specs.Prelude.{◌≡◌, Bool, true, false, ◌&&◌, ◌||◌, ℕ, zero, suc, ◌+◌, ◌≤◌, ◌<◌, eqb, leb, length}
-use Rattle.std.proofs.Math.Path.{refl, ap, ap₂}
-use Rattle.std.proofs.Common.{sym, ◌∙◌, arith, eqb-true}
-use mathlib.Core.List.{List, [], ◌∷◌, ◌++◌, append_assoc, append-nil}
+use Rattle.std.specs.Prelude.{Bool, true, false, ◌&&◌, ◌||◌, ℕ, suc, eqb, leb, length}
+use mathlib.Core.List.{List, [], ◌∷◌}
 use Rattle.rules.specs.declared.Fault.{Fault}
 use Rattle.rules.specs.declared.Run.{Run}
 use Rattle.rules.specs.Words.{pick}
 use Rattle.rules.specs.Case.{Case}
-use Rattle.rules.specs.Slot.{Setup, TaskSet, opened, worked}
+use Rattle.rules.specs.Slot.{TaskSet, opened, worked}
 use Rattle.rules.specs.Replay.{setup_in, released_at, fresh}
-use Rattle.rules.specs.Refusals.{no_fault, fault_of, unless, or_next, first, first_of, case_fault}
+use Rattle.rules.specs.Refusals.{no_fault, unless, or_next, first, first_of, case_fault}
 use Rattle.rules.specs.Answers.{Answer, settled}
-use Rattle.rules.specs.Writer.{joined_text}
-use Rattle.rules.specs.Text.{newline_byte, up_to, has, line_of, after_line, lines_by}
-use Rattle.rules.specs.Log.{LogLine, bad_line, slot_line, tasks_of, slot_says, log_lines, rising, well_formed, keeps_rule, set_named}
-use Rattle.rules.specs.Log.{name_tasks, slot_stands, followed, opened_by, line_at, sets_of, line_fault, lines_fault_in, log_fault, log_answer}
-use Rattle.lists.specs.Lists.{picked}
-use Rattle.legal.specs.Firsts.{next_none, next_some}
-use Rattle.bridge.specs.Steps.{Full, opened_full, worked_same}
-use Rattle.feeds.specs.Alike.{within, within_same, keeps_same, followed_full}
-use Rattle.texts.specs.Fields.{without_head, up_to_without}
-use Rattle.texts.specs.LinesOf.{line_cut, after_line_less, by_ended, by_unended}
-use Rattle.feeds.specs.LineScan.{LineScan, unread, at_start, scan_byte, scan_all, Heard, heard_bad, heard, line_end, hears}
+use Rattle.rules.specs.Text.{newline_byte}
+use Rattle.rules.specs.Log.{LogLine, keeps_rule, set_named}
+use Rattle.rules.specs.Log.{followed, sets_of, line_fault}
+use Rattle.feeds.specs.LineScan.{LineScan, unread, at_start, scan_byte, Heard, heard_bad, heard, line_end}
 
 -- ---- the state: the line that is being read, how many lines were before it, the state of the run, the first fault so far
 pub record Feed : Type 0 where

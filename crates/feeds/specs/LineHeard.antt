@@ -1,27 +1,15 @@
 -- What is heard of the fields of a line, read byte by byte (LineScan), is what `slot_says` of rules, Log, says of them. For Returned.
-use Rattle.std.specs.Prelude.{◌≡◌, Bool, ◌&&◌, ◌||◌, ℕ, zero, suc, ◌+◌, ◌≤◌, ◌<◌, eqb, ltb}
-use Rattle.std.proofs.Math.Path.{refl, ap, fun_ext}
-use Rattle.std.proofs.Common.{sym, ◌∙◌, arith, le-leb, lt-ltb, le-ltb}
-use Rattle.std.proofs.Math.Bool.{true, false, and-false}
-use Rattle.std.proofs.lemmas.Bool.{false≢true, lt-leb}
-use mathlib.Core.List.{List, [], ◌∷◌, ◌++◌}
-use Rattle.std.proofs.Math.Decide.{dec_lt}
+use Rattle.std.specs.Prelude.{Bool, ◌&&◌, ℕ, suc}
+use Rattle.std.proofs.Math.Bool.{true}
+use mathlib.Core.List.{List, [], ◌∷◌}
 use Rattle.std.proofs.Math.Dec.{leb}
-use Rattle.std.proofs.Math.ListN.{length}
 use Rattle.rules.specs.declared.Num.{Num}
 use Rattle.rules.specs.declared.Num.TheVariants as Num·
-use Rattle.rules.specs.Words.{pick}
-use Rattle.rules.specs.Limits.{max_tasks}
 use Rattle.rules.specs.Slot.{TaskSet}
-use Rattle.rules.specs.Text.{tab_byte, same, has, field_of, after_field, number_in}
-use Rattle.rules.specs.Log.{LogLine, bad_line, slot_line, slot_word, fields_in, fields_of, with_value, with_numbers, time_and_tasks, slot_fields}
-use Rattle.rules.specs.Log.{slot_says, rise_past, rising, set_named, name_tasks}
-use Rattle.lists.specs.Lists.{picked}
-use Rattle.texts.specs.Fields.{up_to_without, cut_at, past_less}
-use Rattle.feeds.specs.Alike.{within}
-use Rattle.feeds.specs.NumScan.{NumScan, num_start, num_all, num_end, num_scanned}
-use Rattle.feeds.specs.LineScan.{LineScan, unread, wrong, in_word, in_time, in_task, is_name, with_name, after_time, after_task}
-use Rattle.feeds.specs.LineScan.{field_byte, field_all, Heard, heard_bad, heard, heard_time, heard_task, line_end, hears}
+use Rattle.rules.specs.Text.{number_in}
+use Rattle.rules.specs.Log.{set_named}
+use Rattle.feeds.specs.LineScan.{is_name, with_name}
+use Rattle.feeds.specs.LineScan.{Heard, heard_bad, heard}
 
 -- ---- what numbers in fields are heard as
 abbrev pub with_heard : Num → (ℕ → Heard) → Heard

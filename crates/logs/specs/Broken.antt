@@ -1,9 +1,9 @@
 -- Why a slot breaks the rule, in the words of the request: a number named that is no task, another number running than min(m, N), a named
 -- task
 -- without a present job, or a job left waiting that comes strictly before a running one. What the program says on 18.
-use Rattle.std.specs.Prelude.{◌≡◌, refl, Bool, true, false, ◌&&◌, ◌||◌, not, ◌⊎◌, List, ℕ, zero, suc, min, ◌≤◌, ◌<◌, eqb}
-use Rattle.std.proofs.Common.{sym, ap, ◌∙◌, true≢false, inl, inr, arith}
-use Rattle.std.proofs.lemmas.Bool.{false≢true, eqb-false}
+use Rattle.std.specs.Prelude.{◌≡◌, refl, Bool, true, false, ◌&&◌, ◌||◌, not, ◌⊎◌, List, ℕ, zero, suc, min, ◌<◌, eqb}
+use Rattle.std.proofs.Common.{true≢false, inl, inr, arith}
+use Rattle.std.proofs.lemmas.Bool.{eqb-false}
 use Rattle.rules.specs.Limits.{max_tasks}
 use Rattle.rules.specs.declared.Run.{Run}
 use Rattle.rules.specs.Words.{count_in}

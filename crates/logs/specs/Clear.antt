@@ -1,7 +1,7 @@
 -- When the check finds nothing at fault (`log_fault` of rules, Log): the case is accepted, there are `end` lines, each is well formed and
 -- each keeps the rule of its slot; and the other way. For Exact.
-use Rattle.std.specs.Prelude.{◌≡◌, refl, Bool, false, ◌||◌, List, [], ◌∷◌, ℕ, zero, suc, ◌<◌, eqb, leb}
-use Rattle.std.proofs.Common.{ap, sym, ◌∙◌, arith}
+use Rattle.std.specs.Prelude.{◌≡◌, refl, Bool, ◌||◌, List, [], ℕ, zero, suc, ◌<◌, eqb, leb}
+use Rattle.std.proofs.Common.{ap, ◌∙◌, arith}
 use Rattle.std.proofs.Math.Bool.{true}
 use Rattle.std.proofs.Math.ListN.{length}
 use borrow.Author.Tests.{eqb-true, eq-eqb, lt-leb}
@@ -9,7 +9,7 @@ use Rattle.rules.specs.declared.Fault.{Fault}
 use Rattle.rules.specs.Case.{Case}
 use Rattle.rules.specs.Refusals.{no_fault, unless, or_next, first_of, case_fault, Accepted}
 use Rattle.rules.specs.Replay.{setup_in}
-use Rattle.rules.specs.Answers.{Answer, result}
+use Rattle.rules.specs.Answers.{result}
 use Rattle.rules.specs.Log.{LogLine, well_formed, slot_stands, opened_by, line_at, tasks_of, sets_of, line_fault, lines_fault_in, log_lines}
 use Rattle.rules.specs.Log.{log_fault, log_answer, LogAccepted}
 use Rattle.legal.specs.Firsts.{unless_clear, next_clear, first_of_clear}

@@ -1,21 +1,18 @@
 -- The states that follow a log (`followed` of rules, Log) are those of a course (bridge, Course), and depend on nothing but the sets of
 -- the slots before. So the theorems about courses hold of logs.
-use Rattle.std.specs.Prelude.{◌≡◌, Bool, length}
+use Rattle.std.specs.Prelude.{◌≡◌}
 use Rattle.std.proofs.Math.Path.{refl, ap}
 use Rattle.std.proofs.Common.{sym, ◌∙◌, arith}
-use Prim.Native.Nat.{ℕ, zero, suc, ◌≤◌, ◌<◌}
+use Prim.Native.Nat.{ℕ, zero, suc, ◌<◌}
 use Rattle.rules.specs.Limits.{max_tasks}
 use Rattle.rules.specs.declared.Run.{Run}
-use Rattle.rules.specs.declared.Task.{Task}
-use Rattle.rules.specs.Words.{pick}
 use Rattle.rules.specs.Case.{Case}
-use Rattle.rules.specs.Slot.{Setup, TaskSet, run_of, opened, worked, worked_task}
+use Rattle.rules.specs.Slot.{TaskSet, opened, worked}
 use Rattle.rules.specs.Replay.{setup_in, released_at, state_at, ran_at}
 use Rattle.rules.specs.Log.{followed, opened_by}
-use Rattle.lists.specs.Lists.{map_from_cong}
 use Rattle.bridge.specs.Steps.{Full, opened_full, worked_same}
 use Rattle.bridge.specs.Course.{Course, state_in, opened_in, course_full}
-use Rattle.bridge.specs.Stands.{replay_of, replay_state}
+use Rattle.bridge.specs.Stands.{replay_state}
 use Rattle.logs.specs.Rule.{Obeys}
 
 -- the course of a case whose worked sets are given

@@ -1,16 +1,14 @@
 -- Parts 1 and 2 of demand 3 for any sets that keep the rule slot by slot, under EDF-CF: the theorems about courses (theory, Demand3).
-use Rattle.std.specs.Prelude.{◌≡◌, true, ℕ, ◌+◌, ◌≤◌, ◌<◌}
+use Rattle.std.specs.Prelude.{◌≡◌, true, ℕ, ◌≤◌, ◌<◌}
 use Rattle.std.proofs.Common.{arith, leb-true}
 use Rattle.rules.specs.Words.{count_in}
-use Rattle.rules.specs.Case.{Case, deadline, release_count, time_of}
+use Rattle.rules.specs.Case.{Case, deadline, time_of}
 use Rattle.rules.specs.Counts.{free_count}
 use Rattle.rules.specs.Policies.{demoting}
 use Rattle.rules.specs.Refusals.{Accepted}
-use Rattle.rules.specs.Slot.{TaskSet, present, contention_free, jobs_now}
+use Rattle.rules.specs.Slot.{TaskSet, contention_free, jobs_now}
 use Rattle.rules.specs.Replay.{setup_in}
-use Rattle.rules.specs.Log.{opened_by}
 use Rattle.bridge.specs.Course.{contention_free_in, counted_in, opened_in, finish_in, demotion_in}
-use Rattle.bridge.specs.Stands.{replay_of}
 use Rattle.legal.specs.Legal.{legal}
 use Rattle.bridge.specs.Records.{task_at, sole}
 use Rattle.theory.specs.Lawful.{Lawful, Attends, jobs_opened}

@@ -7,7 +7,6 @@ use Rattle.std.proofs.Math.Decide.{dec_lt}
 use Rattle.rules.specs.Limits.{max_tasks}
 use Rattle.rules.specs.declared.Job.{Job}
 use Rattle.rules.specs.declared.Run.{Run}
-use Rattle.rules.specs.Words.{count_in}
 use Rattle.rules.specs.Case.{Case}
 use Rattle.rules.specs.Slot.{Setup, TaskSet, job_at, is_present, present, due_of, kind, in_turn, job_before, comes_before, chosen, opened, ran}
 use Rattle.rules.specs.Replay.{setup_in, released_at, state_at, ran_at}

@@ -1,15 +1,15 @@
 -- The sets of our own replay keep the rule: the first min(m, N) by kind, deadline and task leave nobody waiting who comes strictly before
 -- a running one by kind and deadline.
 use Rattle.std.specs.Prelude.{◌≡◌, refl, Bool, true, false, ◌⊎◌, ℕ, ◌<◌, ltb}
-use Rattle.std.proofs.Common.{sym, ap, ◌∙◌, true≢false, inl, inr, arith, ltb-true}
+use Rattle.std.proofs.Common.{sym, ◌∙◌, true≢false, inl, inr, ltb-true}
 use Rattle.rules.specs.Limits.{max_tasks}
 use Rattle.rules.specs.declared.Job.{Job}
 use Rattle.rules.specs.declared.Run.{Run}
 use Rattle.rules.specs.Case.{Case}
-use Rattle.rules.specs.Slot.{Setup, job_at, is_present, present, due_of, kind, in_turn, job_before, comes_before, chosen, opened, ran}
+use Rattle.rules.specs.Slot.{Setup, job_at, is_present, present, due_of, kind, in_turn, job_before, chosen, opened, ran}
 use Rattle.rules.specs.Replay.{setup_in, released_at, state_at, ran_at}
-use Rattle.rules.specs.Log.{sooner, opened_by}
-use Rattle.lists.specs.Tests.{and_left, and_right}
+use Rattle.rules.specs.Log.{sooner}
+use Rattle.lists.specs.Tests.{and_left}
 use Rattle.lists.specs.Tests.{and_both}
 use Rattle.theory.specs.Order.{turn_cases, turn_less, turn-same, chosen_exactly, chosen_down}
 use Rattle.logs.specs.Rule.{Obeys}

@@ -1,8 +1,8 @@
 -- The rule of a slot as facts: a set runs min(m, N) of the present jobs, and no job left waiting comes strictly before a running one by
 -- kind and then deadline. `keeps_rule` of rules, Log, holds of just these sets. For every theorem about logs.
-use Rattle.std.specs.Prelude.{◌≡◌, Bool, ◌&&◌, ◌||◌, ℕ, min, ◌+◌, ◌≤◌, ◌<◌, eqb}
+use Rattle.std.specs.Prelude.{◌≡◌, Bool, ◌&&◌, ◌||◌, ℕ, min, ◌≤◌, ◌<◌, eqb}
 use Rattle.std.proofs.Math.Path.{refl}
-use Rattle.std.proofs.Common.{sym, ap, ◌∙◌, true≢false, arith}
+use Rattle.std.proofs.Common.{sym, ◌∙◌, true≢false, arith}
 use Rattle.std.proofs.Math.Bool.{true, false, not}
 use borrow.Author.Tests.{eqb-true, eq-eqb}
 use Rattle.rules.specs.Limits.{max_tasks}

@@ -1,10 +1,8 @@
 -- One line of a log (`slot_says`, `slot_line_text` of rules, Log): what is written of a time and tasks says these, and a line that is not
 -- badly formed is just the bytes that are written of what it says. For LogLines.
-use Rattle.std.specs.Prelude.{◌≡◌, refl, Bool, true, false, List, [], ◌∷◌, ◌++◌, map, ℕ, zero, suc, ◌+◌, ◌^◌, ◌≤◌, ◌<◌, length}
+use Rattle.std.specs.Prelude.{◌≡◌, refl, true, false, List, [], ◌∷◌, ◌++◌, map, ℕ, zero, suc, ◌^◌, ◌≤◌, ◌<◌, length}
 use Rattle.std.proofs.Common.{sym, ap, ◌∙◌, true≢false, arith, length-append}
-use Rattle.rules.specs.Words.{pick}
-use Rattle.rules.specs.Text.{newline_byte, return_byte, tab_byte, same, has, field_of, after_field, number_in, digits_of}
-use Rattle.rules.specs.Writer.{line_text}
+use Rattle.rules.specs.Text.{newline_byte, return_byte, tab_byte, same, has, field_of, after_field, digits_of}
 use Rattle.rules.specs.Log.{LogLine, bad_line, slot_line, slot_word, fields_in, fields_of, with_value, with_numbers, time_and_tasks, slot_fields}
 use Rattle.rules.specs.Log.{slot_says, slot_line_text}
 use Rattle.lists.specs.Lists.{picked}

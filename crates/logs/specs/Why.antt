@@ -1,6 +1,6 @@
 -- What each refusal of a log says (`lines_fault_in` of rules, Log): 17 and 18 name the first line at fault, all lines before it being well
 -- formed and, before the end, keeping the rule; 19 is given only where no line is at fault. One of these holds of every log not accepted.
-use Rattle.std.specs.Prelude.{◌≡◌, ◌||◌, ◌⊎◌, List, [], ◌∷◌, ℕ, zero, suc, ◌≤◌, ◌<◌, eqb, leb, length}
+use Rattle.std.specs.Prelude.{◌≡◌, ◌||◌, ◌⊎◌, List, ℕ, zero, suc, ◌≤◌, ◌<◌, eqb, leb, length}
 use Rattle.std.proofs.Math.Path.{refl}
 use Rattle.std.proofs.Common.{sym, ap, ◌∙◌, inl}
 use Rattle.std.proofs.Math.Bool.{Bool, true, false}

@@ -1,6 +1,6 @@
 -- What is printed of an accepted case: the replay's report (rules, Report) by the numbers in lent memory, and the lines of the commands
 -- `counts` and `slot N`, which are the project's own; and what the writers of these ask and promise.
-use Rattle.std.specs.Prelude.{◌≡◌, ℕ, ◌+◌, ◌*◌, ◌-◌, ◌^◌, ◌≤◌, ◌<◌, List, [], ltb, length, get_or}
+use Rattle.std.specs.Prelude.{ℕ, ◌+◌, ◌*◌, ◌-◌, ◌^◌, ◌≤◌, ◌<◌, List, [], ltb, length, get_or}
 use Rattle.rules.specs.Words.{pick, tab}
 use Rattle.rules.specs.Limits.{max_releases, record_width}
 use Rattle.rules.specs.Case.{Case, task_count, deadline, release_count, time_of, name_of}

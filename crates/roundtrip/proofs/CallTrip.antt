@@ -1,22 +1,18 @@
 -- Laws over specs/CallTrip.
-use Rattle.std.specs.Prelude.{◌≡◌, List, [], ◌∷◌, ◌++◌, ℕ, ◌+◌, ◌*◌, ◌≤◌, length, get_or, take, drop}
-use Rattle.std.proofs.Common.{sym, ap, ap₂, ◌∙◌, subst, arith}
+use Rattle.std.specs.Prelude.{◌≡◌, List, ℕ, ◌≤◌, length}
+use Rattle.std.proofs.Common.{sym, ap, ap₂, ◌∙◌, subst}
 use Rattle.rules.specs.declared.Taken.{Taken}
 use Rattle.rules.specs.declared.Written.{Written}
-use Rattle.rules.specs.Limits.{max_tasks, max_releases, max_text, task_width, release_width}
-use Rattle.rules.specs.Case.{Case, case_of, task_count, release_count}
-use Rattle.rules.specs.Refusals.{room_fault, case_fault, Accepted}
-use Rattle.rules.specs.Answers.{result, taken_as, written_as}
+use Rattle.rules.specs.Limits.{max_text}
+use Rattle.rules.specs.Answers.{result, taken_as}
 use Rattle.rules.specs.Calls.{ReadPromise, WritePromise}
 use Rattle.rules.specs.Text.{without_returns}
 use Rattle.rules.specs.Reader.{case_in, text_fault, read_fault, case_values, read_answer, read_tasks, read_releases}
-use Rattle.rules.specs.Writer.{case_text, write_fault, write_answer, write_bytes}
-use Rattle.lists.specs.Lists.{take-first}
-use Rattle.legal.specs.Legal.{next_clear, Legal, legal}
-use Rattle.legal.specs.Settled.{settled_clear, kept_new, settled_result}
-use Rattle.texts.specs.Passing.{row_passes, room_passes, read_clear, read_roomy}
+use Rattle.legal.specs.Legal.{legal}
+use Rattle.legal.specs.Settled.{settled_result}
+use Rattle.texts.specs.Passing.{read_clear}
 use Rattle.roundtrip.specs.CaseLines.{text_fits}
-use Rattle.roundtrip.specs.RoundTrip.{case_written, no_fault-written, with_policy, text_read, case_accepted}
+use Rattle.roundtrip.specs.RoundTrip.{with_policy, text_read, case_accepted}
 use Rattle.roundtrip.specs.CallTrip.{in_hand, WrittenAs, read_as, written_as_lem, write_clear, Wrote}
 
 -- what a text with its policy line and without its returns takes up: a room of 60,000 bytes is always enough

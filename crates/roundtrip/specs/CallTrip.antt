@@ -1,24 +1,22 @@
 -- The round trip (document 01, "The case text", and request P4) in the words of the public calls: what the reader answers to what the
 -- writer wrote, and what the writer writes of what the reader read, for any answers that keep the promises of the calls (rules, Calls).
 -- Asked is only that the first call gave a result and that the second has room.
-use Rattle.std.specs.Prelude.{◌≡◌, List, [], ◌∷◌, ◌++◌, ℕ, ◌+◌, ◌*◌, ◌≤◌, length, get_or, take, drop}
+use Rattle.std.specs.Prelude.{◌≡◌, List, [], ◌∷◌, ◌++◌, ℕ, ◌*◌, ◌≤◌, length, get_or, take, drop}
 use Rattle.std.proofs.Common.{sym, ap, ap₂, ◌∙◌, subst, arith}
 use Rattle.rules.specs.declared.Taken.{Taken}
 use Rattle.rules.specs.declared.Written.{Written}
-use Rattle.rules.specs.Limits.{max_tasks, max_releases, max_text, task_width, release_width}
+use Rattle.rules.specs.Limits.{max_tasks, max_releases, task_width, release_width}
 use Rattle.rules.specs.Case.{Case, case_of, task_count, release_count}
 use Rattle.rules.specs.Refusals.{room_fault, case_fault, Accepted}
 use Rattle.rules.specs.Answers.{result, taken_as, written_as}
 use Rattle.rules.specs.Calls.{ReadPromise, WritePromise}
-use Rattle.rules.specs.Text.{without_returns}
-use Rattle.rules.specs.Reader.{case_in, text_fault, read_fault, case_values, read_answer, read_tasks, read_releases}
+use Rattle.rules.specs.Reader.{case_in, read_fault, case_values, read_answer, read_tasks, read_releases}
 use Rattle.rules.specs.Writer.{case_text, write_fault, write_answer, write_bytes}
 use Rattle.lists.specs.Lists.{take-first}
 use Rattle.legal.specs.Legal.{next_clear, Legal, legal}
 use Rattle.legal.specs.Settled.{settled_clear, kept_new, settled_result}
-use Rattle.texts.specs.Passing.{row_passes, room_passes, read_clear, read_roomy}
-use Rattle.roundtrip.specs.CaseLines.{text_fits}
-use Rattle.roundtrip.specs.RoundTrip.{case_written, no_fault-written, with_policy, text_read, case_accepted}
+use Rattle.texts.specs.Passing.{row_passes, room_passes, read_roomy}
+use Rattle.roundtrip.specs.RoundTrip.{case_written, no_fault-written}
 
 -- ---- the case that a caller has in hand after reading: the values of the answer, and as many numbers of the two rooms
 unfoldable pub in_hand : List ℕ → List ℕ → List ℕ → Case

@@ -1,6 +1,6 @@
 -- The order of lines (`lines_fault`, `may_follow` of rules, Reader; document 01, "The case text"): lines without a fault are procs,
 -- perhaps a policy, one or more tasks, the end, and releases; and such lines have no fault. For CaseLines and RoundTrip.
-use Rattle.std.specs.Prelude.{◌≡◌, refl, Bool, true, false, ◌||◌, ◌⊎◌, List, [], ◌∷◌, ◌++◌, ℕ, suc, ◌+◌, eqb}
+use Rattle.std.specs.Prelude.{◌≡◌, refl, Bool, true, false, ◌||◌, ◌⊎◌, List, [], ◌∷◌, ◌++◌, ℕ, suc, eqb}
 use Rattle.std.proofs.Common.{sym, ap, ◌∙◌, subst, inl, inr, arith, eqb-true, ne_eqb}
 use Rattle.std.proofs.Math.Bool.{or-false}
 use Rattle.rules.specs.declared.Line.{Line}

@@ -1,7 +1,7 @@
 -- The round trip of the case text (document 01, "The case text", and request P4): reading what the writer wrote gives the same case;
 -- writing what was read gives the text with its policy line where it was absent and without its returns. Over the definitions; CallTrip
 -- says it of the calls.
-use Rattle.std.specs.Prelude.{◌≡◌, Bool, true, false, ◌⊎◌, List, [], ◌∷◌, ◌++◌, ℕ, ◌+◌, ◌^◌, eqb, length}
+use Rattle.std.specs.Prelude.{◌≡◌, Bool, ◌⊎◌, List, [], ◌∷◌, ◌++◌, ℕ, ◌^◌, eqb, length}
 use Rattle.std.proofs.Common.{sym, ap, ◌∙◌, inl, inr, arith}
 use Rattle.rules.specs.Words.{pick}
 use Rattle.rules.specs.declared.Line.{Line}
@@ -9,11 +9,11 @@ use Rattle.rules.specs.declared.Line.TheVariants.{Bad, Procs, Policy}
 use Rattle.rules.specs.Case.{Case, case_of}
 use Rattle.rules.specs.Refusals.{no_fault, Accepted}
 use Rattle.rules.specs.Text.{newline_byte, return_byte, has, line_of, without_returns, after_line, field_of}
-use Rattle.rules.specs.Reader.{word_kind, line_says, lines_of, kind_of, case_order, lines_fault, policy_when_absent, no_case, with_line, with_lines}
+use Rattle.rules.specs.Reader.{word_kind, line_says, lines_of, kind_of, policy_when_absent, no_case, with_line, with_lines}
 use Rattle.rules.specs.Reader.{case_with_default, case_in, text_fault}
 use Rattle.rules.specs.Writer.{joined_text, policy_text, case_text}
 use Rattle.legal.specs.Legal.{legal}
-use Rattle.texts.specs.Returns.{without_none, without_short}
+use Rattle.texts.specs.Returns.{without_short}
 use Rattle.texts.specs.LinesOf.{by_without}
 use Rattle.texts.specs.Passing.{text_clear, text_none}
 use Rattle.roundtrip.specs.LineTrip.{word_in, fields_in, line_bytes, body_kind}

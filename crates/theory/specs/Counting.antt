@@ -1,9 +1,9 @@
 -- Tests over a window of numbers: how their counts compare, and the first that holds: laws of `count_in` and `first_in` (rules, Words).
 -- Nothing of scheduling. Every theorem here that counts slots or jobs cites them.
 use Rattle.std.specs.Prelude.{◌≡◌, refl, Bool, true, false, ◌&&◌, ℕ, zero, suc, ◌+◌, ◌*◌, ◌-◌, min, ◌≤◌, ◌<◌, eqb, ltb, leb}
-use Rattle.std.proofs.Common.{ap, sym, ◌∙◌, add-zero, add-suc, arith, eqb-true, eq-eqb, le-leb, lt-ltb, le-ltb}
+use Rattle.std.proofs.Common.{sym, ◌∙◌, add-zero, add-suc, arith, eqb-true, eq-eqb, le-leb, lt-ltb, le-ltb}
 use Rattle.std.proofs.Math.Bool.{and-false}
-use Rattle.std.proofs.lemmas.Bool.{false≢true, lt-leb}
+use Rattle.std.proofs.lemmas.Bool.{lt-leb}
 use Rattle.std.proofs.Math.Decide.{dec_lt, dec_le}
 use Rattle.rules.specs.Words.{bit, sum, count_in, or_else, first_in}
 use Rattle.lists.specs.Tests.{never_true, and_left, and_right}

@@ -1,5 +1,5 @@
 /*
- * Thrumcomb for C: the seven public calls of libthrumcomb.a (made by `rt staticlib thrumcomb`, for x86-64 Linux).
+ * Thrumcomb for C: the seven public calls of libthrumcomb.a (made by `rt lib` in crates/thrumcomb, for x86-64 Linux).
  *
  * What every call does
  *
@@ -26,7 +26,7 @@
  *   table    task numbers, three a task in the order T, C, D: least separation, execution time, relative deadline
  *   trace    release numbers, two a release in the order time, task; tasks are numbered from 1 in table order
  *   procs    processors, 1 to 32
- *   policy   0 is EDF, 1 is EDF-CF; a text without a policy line means EDF-CF
+ *   policy   0 is EDF, 1 is EDF-CF
  *   end      the trace runs over slots 0 to end - 1; at most 100,000
  *   Lengths count numbers (or, of a text, bytes), not tasks or releases.
  *
@@ -121,8 +121,7 @@ uint32_t thrumcomb_running_set(
 /*
  * The reader of a case text. Refusals 1 to 13, 16.
  * text: its lines end with a newline. One carriage return right before a newline is left out and counts among the 60,000 bytes; anywhere
- * else a return is badly formed (2). Where it has no policy line the policy is 1, EDF-CF. Texts from before this was so meant EDF:
- * thrumcomb_convert puts in the line that says it.
+ * else a return is badly formed (2). Where it has no policy line the policy is 0, EDF: thrumcomb_convert puts in the line that says so.
  * tasks: the task numbers; the room is at least THRUMCOMB_TASK_ROOM numbers long.
  * releases: the release numbers; the room is at least THRUMCOMB_RELEASE_ROOM numbers long.
  * results[0] to [4]: processors, policy, end, how many tasks (of three numbers each), how many releases (of two numbers each).
@@ -149,7 +148,7 @@ uint32_t thrumcomb_write(
     uint32_t *place);
 
 /*
- * The converter of an older case text, in which no policy line meant EDF. Refusals 1 to 13, 16.
+ * The converter of a case text that may have no policy line, so that it says its policy. Refusals 1 to 13, 16.
  * text: as the reader takes it. One that has its policy line is put out unchanged.
  * out: the text with `policy`, a tab, `edf` and a bare newline put in after its procs line; no other byte changes, and returns stay. Read,
  * it is the case that the text meant, and converting it again changes nothing. 13 where the exact text does not fit.

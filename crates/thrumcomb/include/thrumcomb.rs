@@ -1,4 +1,4 @@
-//! Thrumcomb for Rust: the seven public calls of libthrumcomb.a (made by `rt staticlib thrumcomb`, for x86-64 Linux), declared, and for
+//! Thrumcomb for Rust: the seven public calls of libthrumcomb.a (made by `rt lib` in crates/thrumcomb, for x86-64 Linux), declared, and for
 //! each a safe function. thrumcomb.h beside this file says what is lent, what is returned, what each refusal means, and how much stack a
 //! call takes.
 
@@ -205,7 +205,7 @@ pub fn running_set(case: Case<'_>, slot: u32) -> Result<u32, Refusal> {
 }
 
 /// The reader of a case text, its numbers into `tasks` and `releases`. One carriage return right before a newline is left out. Without a
-/// policy line the policy is EDF-CF; `convert` is for texts from before that, which meant EDF.
+/// policy line the policy is EDF; `convert` puts in the line that says so.
 pub fn read(text: &[u8], tasks: &mut [u32], releases: &mut [u32]) -> Result<Head, Refusal> {
     let mut results = [0; 5];
     let mut place = 0;
@@ -254,7 +254,7 @@ pub fn write(case: Case<'_>, out: &mut [u8]) -> Result<usize, Refusal> {
     told(number, results, place).map(|[length]| length)
 }
 
-/// The converter of an older case text, in which no policy line meant EDF: into `out` the same text with the line that says so; returns
+/// The converter of a case text that may have no policy line, which means EDF: into `out` the same text with the line that says so; returns
 /// its length.
 pub fn convert(text: &[u8], out: &mut [u8]) -> Result<usize, Refusal> {
     let mut results = [0; 1];

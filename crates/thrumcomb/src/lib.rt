@@ -148,7 +148,7 @@ pub extern "C" fn thrumcomb_write(
     }
 }
 
-// The converter of an older case text. The result: the new text's length.
+// The converter of a text without a policy line. The result: the new text's length.
 #[unsafe(no_mangle)]
 pub extern "C" fn thrumcomb_convert(
     text: &[u8],

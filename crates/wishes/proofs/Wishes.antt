@@ -1,9 +1,8 @@
 -- Wishes by cases: those that name no slot, those that are asked at all, and those of too many words.
 use mathlib.Core.Path.{◌≡◌, refl}
 use mathlib.Core.Bool.{true, false}
-use mathlib.Core.List.{List, [], ◌∷◌}
+use mathlib.Core.List.{List}
 use Prim.Native.Nat.{ℕ, zero, suc}
-use native.Mathlib.Omega.{arith}
 use Rattle.rules.specs.Refusals.{no_fault}
 use Rattle.wishes.specs.Asks.{asked_of, words_ask, is_asked, asked_fault}
 use Rattle.wishes.specs.declared.Wish.{Wish}

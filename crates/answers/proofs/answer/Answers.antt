@@ -39,9 +39,12 @@ slice_bounds-put_wish-end-2 c =
     )
 
 pub put_wish-requires : goal.put_wish-requires
-put_wish-requires c = 
-    let read_here = c.read-taken in record { print_room_in_bounds = c.requires; accepted = taken_stands _ _ _ _ _ _ _ _ _ c.in-Read.is read_here.ensures.answer _ _ read_here.ensures.left_tasks
-          read_here.ensures.left_releases }
+put_wish-requires c =
+    let read_here = c.read-taken in record {
+      print_room_in_bounds = c.requires;
+      accepted = taken_stands _ _ _ _ _ _ _ _ _ c.in-Read.is read_here.ensures.answer _ _ read_here.ensures.left_tasks
+          read_here.ensures.left_releases;
+    }
 
 pub returns : goal.returns
 returns c =

@@ -1,12 +1,10 @@
 -- `blame::absent_task` meets its contract: the first task that the test finds.
-use mathlib.Core.Path.{sym, ◌∙◌}
 use mathlib.Core.Bool.{◌&&◌, not}
 use Prim.Native.Nat.{◌-◌}
 use Rattle.rules.specs.Limits.{max_tasks}
 use Rattle.rules.specs.Slot.{present}
 use Rattle.lists.specs.Lists.{members}
-use Rattle.blame.specs.Blames.{absent_task}
-use Rattle.blame.proofs.Firsts.{Seeking, seek_none, seek_next, seek_found, seek_all}
+use Rattle.blame.proofs.Firsts.{Seeking}
 use Rattle.blame.proofs.absent_task.Given as goal
 
 abbrev pub invariant-loop-i : goal.invariant-loop-i

@@ -1,9 +1,7 @@
 -- `blame::jobs_now` meets its contract: one more for each task that has a job.
 use mathlib.Core.Path.{refl}
-use Prim.Native.Nat.{◌-◌}
-use Rattle.rules.specs.Limits.{max_tasks}
 use Rattle.rules.specs.Slot.{present, jobs_now}
-use Rattle.blame.proofs.Counts.{Counting, counting_none, counting_room, counting_next, counting_all}
+use Rattle.blame.proofs.Counts.{counting_none, counting_room, counting_next, counting_all}
 use Rattle.blame.proofs.jobs_now.Goals as goal
 
 pub loop-i-init : goal.loop-i-init

@@ -1,13 +1,8 @@
 -- `blame::overtaking_task` meets its contract: the first task that the test finds.
 use mathlib.Core.Path.{sym, ◌∙◌}
-use mathlib.Core.List.{[]}
-use Prim.Native.Nat.{◌-◌}
-use Rattle.rules.specs.Limits.{max_tasks}
-use Rattle.rules.specs.Slot.{setup_of, present}
-use Rattle.rules.specs.Log.{wronged}
-use Rattle.lists.specs.Lists.{members}
+use Rattle.rules.specs.Slot.{present}
 use Rattle.blame.specs.Blames.{overtaking_task}
-use Rattle.blame.proofs.Firsts.{Seeking, seek_none, seek_next, seek_found, seek_all}
+use Rattle.blame.proofs.Firsts.{seek_none, seek_next, seek_found, seek_all}
 use Rattle.blame.proofs.overtaking_task.Goals as goal
 
 pub loop-i-init : goal.loop-i-init

@@ -1,13 +1,11 @@
 -- `blame::overtaking_task` meets its contract: the first task that the test finds.
-use mathlib.Core.Path.{sym, ◌∙◌}
 use mathlib.Core.List.{[]}
 use Prim.Native.Nat.{◌-◌}
 use Rattle.rules.specs.Limits.{max_tasks}
-use Rattle.rules.specs.Slot.{setup_of, present}
+use Rattle.rules.specs.Slot.{setup_of}
 use Rattle.rules.specs.Log.{wronged}
 use Rattle.lists.specs.Lists.{members}
-use Rattle.blame.specs.Blames.{overtaking_task}
-use Rattle.blame.proofs.Firsts.{Seeking, seek_none, seek_next, seek_found, seek_all}
+use Rattle.blame.proofs.Firsts.{Seeking}
 use Rattle.blame.proofs.overtaking_task.Given as goal
 
 abbrev pub invariant-loop-i : goal.invariant-loop-i

@@ -1,6 +1,5 @@
 -- `blame::put_job` meets its contract.
 use native.Mathlib.Omega.{arith}
-use Rattle.rules.specs.Slot.{due_of}
 use Rattle.texts.specs.Digits.{at_most_ten}
 use Rattle.puts.proofs.Puts.{laid_then, laid_length}
 use Rattle.reasons.specs.Reasons.{sign_bytes, words}

@@ -23,14 +23,14 @@ overtaking_task-i-requires c =
     omega (arith, c.waiting_task-j.ensures 0 [], within)
 
 pub job_of-a-requires : goal.job_of-a-requires
-job_of-a-requires c = 
+job_of-a-requires c =
     let a = c.args in
     let g = setup_of 0 a.policy [] in
     let j = c.waiting_task-j in
     let within = waiting_within g a.clock a.r (members a.named.now) in record { le_task = omega (arith, c.if-j-eq0.false); task_le_max_tasks = omega (arith, j.ensures 0 [], within) }
 
 pub job_of-b-requires : goal.job_of-b-requires
-job_of-b-requires c = 
+job_of-b-requires c =
     let a = c.args in
     let g = setup_of 0 a.policy [] in
     let j = c.waiting_task-j.ensures 0 [] in

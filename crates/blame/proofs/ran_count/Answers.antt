@@ -1,9 +1,6 @@
 -- `blame::ran_count` meets its contract: one more for each task of the set.
 use mathlib.Core.Path.{refl}
-use Prim.Native.Nat.{◌-◌}
-use Rattle.rules.specs.Limits.{max_tasks}
-use Rattle.lists.specs.Lists.{members}
-use Rattle.blame.proofs.Counts.{Counting, counting_none, counting_room, counting_next, counting_all}
+use Rattle.blame.proofs.Counts.{counting_none, counting_room, counting_next}
 use Rattle.blame.proofs.ran_count.Goals as goal
 
 pub loop-i-init : goal.loop-i-init

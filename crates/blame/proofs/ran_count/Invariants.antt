@@ -1,9 +1,8 @@
 -- `blame::ran_count` meets its contract: one more for each task of the set.
-use mathlib.Core.Path.{refl}
 use Prim.Native.Nat.{◌-◌}
 use Rattle.rules.specs.Limits.{max_tasks}
 use Rattle.lists.specs.Lists.{members}
-use Rattle.blame.proofs.Counts.{Counting, counting_none, counting_room, counting_next, counting_all}
+use Rattle.blame.proofs.Counts.{Counting}
 use Rattle.blame.proofs.ran_count.Given as goal
 
 abbrev pub invariant-loop-i : goal.invariant-loop-i

@@ -1,5 +1,4 @@
 -- `blame::waiting_task` meets its contract: the first task that some other overtakes.
-use mathlib.Core.Path.{sym, ◌∙◌}
 use mathlib.Core.Bool.{not}
 use mathlib.Core.List.{[]}
 use Prim.Native.Nat.{◌-◌}
@@ -7,9 +6,8 @@ use lib.Dec.{eqb}
 use Rattle.rules.specs.Limits.{max_tasks}
 use Rattle.rules.specs.Slot.{setup_of}
 use Rattle.lists.specs.Lists.{members}
-use Rattle.blame.specs.Blames.{overtaking_task, waiting_task}
-use Rattle.blame.proofs.Firsts.{Seeking, seek_none, seek_next, seek_found, seek_all}
-use Rattle.blame.proofs.Finds.{some_found, none_found}
+use Rattle.blame.specs.Blames.{overtaking_task}
+use Rattle.blame.proofs.Firsts.{Seeking}
 use Rattle.blame.proofs.waiting_task.Given as goal
 
 abbrev pub invariant-loop-j : goal.invariant-loop-j

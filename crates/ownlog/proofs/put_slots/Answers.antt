@@ -1,20 +1,17 @@
 -- `ownlog::put_slots` meets its contract: each slot goes on from the one before it, and its line stands behind the others.
-use Prim.Native.Nat.{◌+◌, ◌-◌, ◌≤◌, ◌<◌}
-use native.Mathlib.Omega.{arith}
+use Prim.Native.Nat.{◌+◌, ◌≤◌, ◌<◌}
 use lib.ListN.{length}
-use Rattle.rules.specs.Case.{case_of}
 use Rattle.legal.specs.Legal.{legal}
 use Rattle.traces.specs.Given.{orderly, needed}
-use Rattle.puts.proofs.Puts.{laid_length, part_length}
 use Rattle.prints.specs.Lines.{line_room}
-use Rattle.ownlog.proofs.Writing.{Writing, writing_none, writing_more, writing_done}
+use Rattle.ownlog.proofs.Writing.{writing_none, writing_more, writing_done}
 use Rattle.ownlog.proofs.put_slots.Goals as goal
 
 pub loop-jobs-init : goal.loop-jobs-init
 loop-jobs-init c = writing_none _ _ _ _ _ c.requires.plays
 
 pub take_releases-next-requires : goal.take_releases-next-requires
-take_releases-next-requires c = 
+take_releases-next-requires c =
     let v = c.loop-jobs.invariant in record { orderly = orderly _ (legal _ c.requires.accepted); reached = v.plays.reached }
 
 pub step-run-requires : goal.step-run-requires

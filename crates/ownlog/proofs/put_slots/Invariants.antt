@@ -1,13 +1,7 @@
 -- `ownlog::put_slots` meets its contract: each slot goes on from the one before it, and its line stands behind the others.
-use Prim.Native.Nat.{◌+◌, ◌-◌, ◌≤◌, ◌<◌}
-use native.Mathlib.Omega.{arith}
-use lib.ListN.{length}
+use Prim.Native.Nat.{◌-◌}
 use Rattle.rules.specs.Case.{case_of}
-use Rattle.legal.specs.Legal.{legal}
-use Rattle.traces.specs.Given.{orderly, needed}
-use Rattle.puts.proofs.Puts.{laid_length, part_length}
-use Rattle.prints.specs.Lines.{line_room}
-use Rattle.ownlog.proofs.Writing.{Writing, writing_none, writing_more, writing_done}
+use Rattle.ownlog.proofs.Writing.{Writing}
 use Rattle.ownlog.proofs.put_slots.Given as goal
 
 abbrev pub invariant-loop-jobs : goal.invariant-loop-jobs

@@ -1,12 +1,7 @@
 -- `report::put_count_lines` meets its contract: the lines of the tasks passed are laid, each in the part from the present end on.
-use Prim.Native.Nat.{◌+◌, ◌-◌, ◌≤◌}
-use mathlib.Core.Path.{◌≡◌}
-use native.Mathlib.Omega.{arith}
-use lib.ListN.{length}
-use Rattle.puts.proofs.Puts.{laid_length, part_length}
+use Prim.Native.Nat.{◌-◌, ◌≤◌}
 use Rattle.prints.specs.Lines.{line_room}
 use Rattle.report.specs.Cases.{count_text, Listed}
-use Rattle.report.proofs.Lines.{listed_none, listed_more}
 use Rattle.report.proofs.put_count_lines.Given as goal
 
 abbrev pub invariant-loop-i : goal.invariant-loop-i

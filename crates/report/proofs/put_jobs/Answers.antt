@@ -1,12 +1,9 @@
 -- `report::put_jobs` meets its contract: the lines of the releases passed are laid, each in the part from the present end on.
-use Prim.Native.Nat.{◌+◌, ◌-◌, ◌≤◌}
-use mathlib.Core.Path.{◌≡◌}
+use Prim.Native.Nat.{◌+◌, ◌≤◌}
 use native.Mathlib.Omega.{arith}
 use lib.ListN.{length}
-use Rattle.rules.specs.Case.{release_count}
-use Rattle.puts.proofs.Puts.{laid_length, part_length}
+use Rattle.puts.proofs.Puts.{laid_length}
 use Rattle.prints.specs.Lines.{job_room}
-use Rattle.report.specs.Cases.{job_text, Listed}
 use Rattle.report.proofs.Lines.{listed_none, listed_more}
 use Rattle.report.proofs.put_jobs.Goals as goal
 

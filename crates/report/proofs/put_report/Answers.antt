@@ -22,7 +22,7 @@ overflow_cast-releases c =
     omega (arith, (legal _ c.requires.accepted).releases_few, c.release_count-releases.ensures)
 
 pub put_jobs-last-requires : goal.put_jobs-last-requires
-put_jobs-last-requires c = 
+put_jobs-last-requires c =
     let replay = c.replay-replayed in
     let ok = c.requires.accepted in
     let run = c.put_run-at in

@@ -1,16 +1,15 @@
 -- More lines behind a log change nothing in front: its lines, sets, states and faults stay. For Feed.
-use Rattle.std.specs.Prelude.{◌≡◌, refl, List, [], ◌∷◌, ◌++◌, ℕ, zero, suc, ◌+◌, ◌≤◌, ◌<◌, length}
-use Rattle.std.proofs.Common.{sym, ap₂, ◌∙◌, arith}
+use Rattle.std.specs.Prelude.{◌≡◌, refl, List, [], ◌∷◌, ◌++◌, ℕ, zero, suc, ◌≤◌, ◌<◌, length}
+use Rattle.std.proofs.Common.{ap₂, arith}
 use Rattle.std.proofs.Math.Path.{ap}
 use Rattle.std.proofs.Math.ListN.{get_or-append}
-use Rattle.rules.specs.declared.Fault.{Fault}
 use Rattle.rules.specs.declared.Run.{Run}
 use Rattle.rules.specs.Case.{Case}
 use Rattle.rules.specs.Slot.{Setup, TaskSet, opened, worked}
 use Rattle.rules.specs.Replay.{setup_in, released_at}
 use Rattle.rules.specs.Refusals.{first_of}
 use Rattle.legal.specs.Firsts.{first-same}
-use Rattle.rules.specs.Log.{LogLine, bad_line, tasks_of, set_named, followed, opened_by, line_at, sets_of, line_fault}
+use Rattle.rules.specs.Log.{LogLine, bad_line, tasks_of, set_named, followed, line_at, sets_of, line_fault}
 
 -- the same sets before t, the same state at t
 followed_cong : (g : Setup) (released : ℕ → TaskSet) (a b : ℕ → TaskSet) (t : ℕ) → ((u : ℕ) → u < t → a u ≡ b u)
