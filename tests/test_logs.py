@@ -621,6 +621,15 @@ class Files(WithFiles):
             self.put(logs.as_bytes(logs.LOG_A), os.fsdecode(name))
             self.assertEqual(ended(["log", name], text, cwd=self.folder), (0, b"accepted\n", b""), name)
 
+    def test_names_that_are_not_utf_8(self):
+        for name in (b"\xff", b"a\x80", b"\xc3", b"\xe2\x82", b"\xed\xa0\x80", b"\xc0\xaf", b"\xf5\x80\x80\x80", b"caf\xe9/log",
+                     b"caf\xc3\xa9"):
+            path = os.path.join(self.folder, os.fsdecode(name))
+            self.assertFails(path, errno.ENOENT)
+            self.put(logs.as_bytes(logs.LOG_A), os.fsdecode(name))
+            self.assertEqual(ended(["log", path], cases.text_of(logs.A)), (0, b"accepted\n", b""), name)
+            self.assertEqual(ended(["-q", "log", path], b""), (2, b"refused 3 1\n", b""), name)
+
     def test_long_paths(self):
         """Of each length about a power of two, up to the longest that the system takes."""
         text = cases.text_of(logs.A)

@@ -86,11 +86,13 @@ module _ (s ts rs : List ℕ) where
         )
 
     -- what the caller has in hand is the case of the text
-    pub case_read : case_of m p (take (n * task_width) (read_tasks s ts rs)) e (take (k * release_width) (read_releases s ts rs)) ≡ case_in s
+    pub case_read : case_of m p (take (n * task_width) (read_tasks s ts rs)) e (take (k * release_width) (read_releases s ts rs))
+        ≡ case_in s
     unfolding in_hand
     case_read = ap (λ l. in_hand l (read_tasks s ts rs) (read_releases s ts rs)) (sym settled_read.1) ∙ read.in_hand_lem
 
-    pub case_stands : Accepted (case_of m p (take (n * task_width) (read_tasks s ts rs)) e (take (k * release_width) (read_releases s ts rs)))
+    pub case_stands : Accepted (case_of m p (take (n * task_width) (read_tasks s ts rs)) e (take (k * release_width) (read_releases s ts
+        rs)))
     case_stands = rw case_read (case_accepted s text_clear)
 
     -- and what is said of it is said of the text

@@ -13,11 +13,13 @@ use Rattle.rules.specs.Words.{pick, first_in}
 use Rattle.rules.specs.Limits.{max_tasks}
 use Rattle.rules.specs.Case.{deadline}
 use Rattle.rules.specs.Policies.{demoting}
-use Rattle.rules.specs.Slot.{Setup, TaskSet, no_task, job_at, is_present, due_of, present, is_demoted_now, readied, demoted, contention_free}
+use Rattle.rules.specs.Slot.{Setup, TaskSet, no_task, job_at, is_present, due_of, present, is_demoted_now, readied, demoted}
+use Rattle.rules.specs.Slot.{contention_free}
 use Rattle.rules.specs.Slot.{opened, worked, worked_job, demoted_now, is_last}
 use Rattle.rules.specs.Replay.{fresh, idle_task}
 use Rattle.lists.specs.Lists.{tab_at, tab_long}
-use Rattle.bridge.specs.Steps.{Full, opened_full, worked_full, readied_at, opened_at_lem, worked_at_lem, readied_job, judged_job, opened_job}
+use Rattle.bridge.specs.Steps.{Full, opened_full, worked_full, readied_at, opened_at_lem, worked_at_lem, readied_job, judged_job}
+use Rattle.bridge.specs.Steps.{opened_job}
 use Rattle.bridge.specs.Jobs.{Stand, slot_stand, work_absent}
 
 -- what stays the same, the set released at each time, and the set worked in each slot

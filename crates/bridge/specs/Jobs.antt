@@ -6,7 +6,8 @@ use Rattle.std.proofs.Common.{sym, ap, ◌∙◌, true≢false, inl, inr, arith,
 use Rattle.std.proofs.Math.Bool.{or-false}
 use Rattle.std.proofs.lemmas.Bool.{false≢true, lt-leb}
 use Rattle.rules.specs.Words.{pick, bit, or_else}
-use Rattle.rules.specs.Slot.{is_present, is_demoted, left_of, free_of, due_of, demotes, is_demoted_now, lowered_job, kind, is_last, worked_job}
+use Rattle.rules.specs.Slot.{is_present, is_demoted, left_of, free_of, due_of, demotes, is_demoted_now, lowered_job, kind, is_last}
+use Rattle.rules.specs.Slot.{worked_job}
 use Rattle.rules.specs.declared.Job.{Job}
 use Rattle.rules.specs.declared.Job.TheVariants.{Idle, Normal, Demoted}
 use Rattle.lists.specs.Tests.{never_true}

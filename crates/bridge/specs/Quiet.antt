@@ -12,7 +12,8 @@ use Rattle.rules.specs.declared.Run.{Run}
 use Rattle.rules.specs.Words.{pick}
 use Rattle.rules.specs.Limits.{max_tasks}
 use Rattle.rules.specs.Policies.{demoting}
-use Rattle.rules.specs.Slot.{Setup, TaskSet, no_task, run_of, with_job, job_at, present, each_task, is_missed, judged, joined, is_demoted_now}
+use Rattle.rules.specs.Slot.{Setup, TaskSet, no_task, run_of, with_job, job_at, present, each_task, is_missed, judged, joined}
+use Rattle.rules.specs.Slot.{is_demoted_now}
 use Rattle.rules.specs.Slot.{demoted_task, demoted}
 use Rattle.rules.specs.Slot.{readied, jobs_now, contention_free, lowered_task, lowered, opened, chosen, worked_task, worked, after}
 use Rattle.lists.specs.Sums.{count_none, none_counted}

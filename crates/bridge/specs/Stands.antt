@@ -8,7 +8,8 @@ use Rattle.rules.specs.Words.{pick, first_in}
 use Rattle.rules.specs.Limits.{max_tasks}
 use Rattle.rules.specs.Case.{Case, deadline}
 use Rattle.rules.specs.Policies.{demoting}
-use Rattle.rules.specs.Slot.{Setup, TaskSet, job_at, is_present, is_demoted, is_last, present, is_demoted_now, opened, chosen, worked, worked_job}
+use Rattle.rules.specs.Slot.{Setup, TaskSet, job_at, is_present, is_demoted, is_last, present, is_demoted_now, opened, chosen, worked}
+use Rattle.rules.specs.Slot.{worked_job}
 use Rattle.rules.specs.Slot.{after, ran, finished, demoted_now}
 use Rattle.rules.specs.Replay.{setup_in, released_at, state_from, state_at, finished_at, demoted_at, ran_at}
 use Rattle.rules.specs.declared.Job.{Job}

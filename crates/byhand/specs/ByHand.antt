@@ -11,7 +11,8 @@ use Rattle.rules.specs.Words.{sum, first_in, tab, map_from}
 use Rattle.rules.specs.Counts.{availability, availabilities, count, free_count}
 use Rattle.rules.specs.Slot.{present, judged, joined, demoted, jobs_now, contention_free, lowered, opened, job_before, rank, chosen, worked}
 use Rattle.rules.specs.Slot.{after, ran, finished, missed, demoted_now, set_number}
-use Rattle.rules.specs.Replay.{released_in, state_from, state_at, ran_at, finished_at, demoted_at, slots_by, finish_by, demotion_by, verdict_by}
+use Rattle.rules.specs.Replay.{released_in, state_from, state_at, ran_at, finished_at, demoted_at, slots_by, finish_by, demotion_by}
+use Rattle.rules.specs.Replay.{verdict_by}
 use Rattle.rules.specs.Replay.{record_by, marked, numbers, Record, record_of, records}
 use Rattle.rules.specs.Refusals.{or_next, first_of, procs_fault, policy_fault, table_fault, task_fault, end_fault, trace_fault, in_order}
 use Rattle.rules.specs.Refusals.{last_before}
@@ -155,7 +156,8 @@ Stands e = e.given ≡ e.said
 answered : (c : Case) (rs : List Record) (room : List ℕ) → records c ≡ rs
     → replaying c room ≡ outcome
     (settled (replay_fault c (length (room_of room))) (marked 1 rs ∷ marked 2 rs ∷ marked 3 rs ∷ []))
-    (kept (replay_fault c (length (room_of room))) (numbers rs ++ drop (release_count c.trace * record_width) (room_of room)) (room_of room))
+    (kept (replay_fault c (length (room_of room))) (numbers rs ++ drop (release_count c.trace * record_width) (room_of room)) (room_of
+    room))
 unfolding replay_answer replay_room room_after
 answered c rs room e = rw (← e) refl
 
@@ -183,7 +185,8 @@ known :
     (records (two edf) ≡ record_of 1 2 0 ∷ record_of 1 4 0 ∷ []) ×
     (records (two edf_cf) ≡ record_of 1 2 0 ∷ record_of 1 4 0 ∷ [])
 unfolding sum first_in tab map_from availability availabilities count free_count
-    present judged joined demoted jobs_now contention_free lowered opened job_before rank chosen worked after ran finished missed demoted_now
+    present judged joined demoted jobs_now contention_free lowered opened job_before rank chosen worked after ran finished missed
+    demoted_now
     released_in state_from state_at ran_at finished_at demoted_at slots_by finish_by demotion_by verdict_by record_by
 known = (refl, refl, refl, refl, refl, refl, refl, refl, refl)
 
@@ -193,7 +196,8 @@ replayed :
     Stands (B_10 edf) × Stands (B_10 edf_cf) × Stands (B_9 edf) × Stands (B_9 edf_cf) ×
     Stands one_task × Stands (two_tasks edf) × Stands (two_tasks edf_cf)
 unfolding sum marked numbers
-    or_next first_of procs_fault policy_fault table_fault task_fault end_fault trace_fault in_order last_before release_fault absent_fault room_fault
+    or_next first_of procs_fault policy_fault table_fault task_fault end_fault trace_fault in_order last_before release_fault absent_fault
+    room_fault
     case_fault replay_fault settled kept
 replayed = (
   answered (set_a edf) _ nine known.0 ∙ refl,

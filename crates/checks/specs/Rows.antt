@@ -1,7 +1,8 @@
 -- The parts of the row of tests (rules, Refusals) that one function makes, and what those after the table ask of it.
 -- These stand in contracts of inner functions alone; a public call asks nothing of its caller.
 use Rattle.std.specs.Prelude.{ℕ, List, [], ◌∷◌}
-use Rattle.rules.specs.Refusals.{procs_fault, policy_fault, table_fault, tasks_fault, end_fault, trace_fault, releases_fault, absences_fault}
+use Rattle.rules.specs.Refusals.{procs_fault, policy_fault, table_fault, tasks_fault, end_fault, trace_fault, releases_fault}
+use Rattle.rules.specs.Refusals.{absences_fault}
 use Rattle.rules.specs.declared.Fault.{Fault}
 pub use Rattle.legal.specs.Passing.{Sound}
 

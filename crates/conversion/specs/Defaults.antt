@@ -7,7 +7,8 @@ use Rattle.rules.specs.declared.Line.TheVariants.{Bad, Procs, Policy, Row, End, 
 use Rattle.rules.specs.Case.{Case}
 use Rattle.rules.specs.Refusals.{first, case_fault}
 use Rattle.rules.specs.Policies.{max_policy}
-use Rattle.rules.specs.Reader.{lines_of, case_order, lines_fault, policy_when_absent, no_case, with_line, with_lines, case_with_default, case_in}
+use Rattle.rules.specs.Reader.{lines_of, case_order, lines_fault, policy_when_absent, no_case, with_line, with_lines, case_with_default}
+use Rattle.rules.specs.Reader.{case_in}
 use Rattle.rules.specs.Reader.{length_fault, text_fault}
 use Rattle.rules.specs.Convert.{old_policy_when_absent, old_case_in}
 use Rattle.legal.specs.Passing.{policy_none}

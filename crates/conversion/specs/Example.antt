@@ -3,12 +3,14 @@
 use Rattle.std.specs.Prelude.{◌≡◌, refl, List, [], ◌∷◌, ◌++◌, ℕ}
 use Rattle.rules.specs.Words.{sum}
 use Rattle.rules.specs.Case.{case_of}
-use Rattle.rules.specs.Refusals.{no_fault, fault_of, or_next, first_of, procs_fault, policy_fault, table_fault, task_fault, end_fault, trace_fault}
+use Rattle.rules.specs.Refusals.{no_fault, fault_of, or_next, first_of, procs_fault, policy_fault, table_fault, task_fault, end_fault}
+use Rattle.rules.specs.Refusals.{trace_fault}
 use Rattle.rules.specs.Refusals.{in_order, last_before, release_fault, absent_fault, room_fault, case_fault}
 use Rattle.rules.specs.Text.{same, up_to, past, has, line_return, line_of, after_line, field_of, after_field, all_digits, no_leading_zero}
 use Rattle.rules.specs.Text.{is_number, worth, lines_by, number_in, procs_word, policy_word, task_word, end_word, release_word}
 use Rattle.rules.specs.Policies.{edf, edf_word, policy_name, place_from, policy_of}
-use Rattle.rules.specs.Reader.{one_number, two_numbers, three_numbers, policy_in, word_kind, fields_say, line_says, lines_of, may_follow, may_stop}
+use Rattle.rules.specs.Reader.{one_number, two_numbers, three_numbers, policy_in, word_kind, fields_say, line_says, lines_of, may_follow}
+use Rattle.rules.specs.Reader.{may_stop}
 use Rattle.rules.specs.Reader.{lines_fault, with_line, with_lines, case_with_default, case_in, length_fault, text_fault}
 use Rattle.rules.specs.Writer.{more_fields, line_text, policy_text}
 use Rattle.rules.specs.PolicyLine.{policy_given, with_policy}
@@ -29,7 +31,8 @@ new_text = procs_word ++ (9 ∷ 49 ∷ 13 ∷ 10 ∷ (policy_word ++ (9 ∷ (edf
 
 -- converted, and once more
 pub put_in : converted old_text ≡ new_text
-unfolding same up_to past line_return line_of after_line field_of word_kind policy_name more_fields line_text policy_text policy_given with_policy
+unfolding same up_to past line_return line_of after_line field_of word_kind policy_name more_fields line_text policy_text policy_given
+    with_policy
     converted
 put_in = refl
 
@@ -44,8 +47,10 @@ pub record Meant : Type 0 where
   pub after : case_in new_text ≡ case_of 1 edf (5 ∷ 1 ∷ 5 ∷ []) 5 (0 ∷ 1 ∷ [])
 
 pub meant : Meant
-unfolding same up_to past has line_return line_of after_line field_of after_field all_digits no_leading_zero is_number worth number_in one_number
-    two_numbers three_numbers place_from policy_of policy_in word_kind fields_say line_says lines_by lines_of with_line with_lines case_with_default
+unfolding same up_to past has line_return line_of after_line field_of after_field all_digits no_leading_zero is_number worth number_in
+    one_number
+    two_numbers three_numbers place_from policy_of policy_in word_kind fields_say line_says lines_by lines_of with_line with_lines
+    case_with_default
     case_in old_case_in
 meant = record { before = refl; now = refl; after = refl }
 
@@ -55,8 +60,12 @@ pub record Fits : Type 0 where
   pub one_short : convert_fault old_text 49 ≡ fault_of 13 0
 
 pub fits : Fits
-unfolding same up_to past has line_return line_of after_line field_of after_field all_digits no_leading_zero is_number worth number_in one_number
-    two_numbers three_numbers word_kind fields_say line_says lines_by lines_of may_follow may_stop lines_fault with_line with_lines case_with_default
-    case_in length_fault text_fault or_next first_of procs_fault policy_fault table_fault task_fault end_fault trace_fault in_order last_before
-    release_fault sum absent_fault case_fault policy_name more_fields line_text policy_text policy_given with_policy converted room_fault convert_fault
+unfolding same up_to past has line_return line_of after_line field_of after_field all_digits no_leading_zero is_number worth number_in
+    one_number
+    two_numbers three_numbers word_kind fields_say line_says lines_by lines_of may_follow may_stop lines_fault with_line with_lines
+    case_with_default
+    case_in length_fault text_fault or_next first_of procs_fault policy_fault table_fault task_fault end_fault trace_fault in_order
+    last_before
+    release_fault sum absent_fault case_fault policy_name more_fields line_text policy_text policy_given with_policy converted room_fault
+    convert_fault
 fits = record { room = refl; one_short = refl }

@@ -10,7 +10,8 @@ use Rattle.rules.specs.Case.{Case, task_count, release_count}
 use Rattle.rules.specs.Refusals.{room_fault}
 use Rattle.rules.specs.Policies.{edf}
 use Rattle.rules.specs.Text.{newline_byte}
-use Rattle.rules.specs.Reader.{lines_of, policy_when_absent, no_case, with_line, with_lines, case_with_default, case_in, length_fault, text_fault}
+use Rattle.rules.specs.Reader.{lines_of, policy_when_absent, no_case, with_line, with_lines, case_with_default, case_in, length_fault}
+use Rattle.rules.specs.Reader.{text_fault}
 use Rattle.rules.specs.Writer.{policy_text}
 use Rattle.rules.specs.PolicyLine.{policy_given}
 use Rattle.rules.specs.Convert.{converted, convert_fault}

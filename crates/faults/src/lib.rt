@@ -1,7 +1,8 @@
 // The refusals on numbers one by one: each test as a function, and the first fault of several.
 #![tactic(auto)]
 
-ghost use Rattle.std.specs.Prelude.{◌≡◌, Bool, true, false, ◌&&◌, ◌||◌, List, [], ◌∷◌, ℕ, suc, ◌+◌, ◌*◌, ◌-◌, ◌≤◌, ◌<◌, eqb, leb, ltb, length, get_or};
+ghost use Rattle.std.specs.Prelude.{◌≡◌, Bool, true, false, ◌&&◌, ◌||◌, List, [], ◌∷◌, ℕ, suc, ◌+◌, ◌*◌, ◌-◌, ◌≤◌, ◌<◌, eqb, leb, ltb};
+ghost use Rattle.std.specs.Prelude.{length, get_or};
 ghost use Rattle.rules.specs.Limits.{max_tasks, max_period, max_end};
 ghost use Rattle.rules.specs.Case.{task_count, release_count};
 ghost use Rattle.rules.specs.Refusals.{fault_of, no_fault, unless, or_next, first, procs_fault, policy_fault, table_fault, task_stands};

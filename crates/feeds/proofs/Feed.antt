@@ -26,7 +26,8 @@ use Rattle.feeds.proofs.LineScan.{begun}
 use Rattle.feeds.proofs.LineScan.{begun_all}
 use Rattle.feeds.proofs.Returned.{line_heard}
 use Rattle.feeds.specs.Front.{line_next, long_next, state_front, first_front}
-use Rattle.feeds.specs.Feed.{Feed, feed_of, opening, formed_heard, names_heard, set_heard, heard_fault, closed_by, closed, feed_byte, feed, fed_fault, fed_answer, fed_of, feed_pieces}
+use Rattle.feeds.specs.Feed.{Feed, feed_of, opening, formed_heard, names_heard, set_heard, heard_fault, closed_by, closed, feed_byte, feed}
+use Rattle.feeds.specs.Feed.{fed_fault, fed_answer, fed_of, feed_pieces}
 
 -- ---- two pieces one after the other are their join
 pub feed-append : (c : Case) (f : Feed) (a b : List ℕ) → feed c f (a ++ b) ≡ feed c (feed c f a) b
@@ -103,7 +104,8 @@ module _ (c : Case) (ls : List LogLine) (x : LogLine) where
   fed_next = feed-same _ _ _ _ _ _ (sym (long_next ls x)) next_run next_fault
 
 fed_line : (c : Case) (ls : List LogLine) (l rest : List ℕ) → has newline_byte l ≡ false
-    → feed c (fed_of c ls) (l ++ (newline_byte ∷ rest)) ≡ feed c (fed_of c (ls ++ (slot_says (line_of (l ++ (newline_byte ∷ rest))) ∷ []))) rest
+    → feed c (fed_of c ls) (l ++ (newline_byte ∷ rest))
+    ≡ feed c (fed_of c (ls ++ (slot_says (line_of (l ++ (newline_byte ∷ rest))) ∷ []))) rest
 unfolding fed_of
 fed_line c ls l rest h =
     feed-append c (fed_of c ls) l (newline_byte ∷ rest)
@@ -200,7 +202,8 @@ fed_lines c (suc k) (b ∷ s) ls h =
     go true e ih =
         ap (λ (t : List ℕ). fed_fault c (feed c (fed_of c ls) t)) (sym (line_cut (b ∷ s) e))
         ∙ ap (fed_fault c) (fed_line c ls (up_to newline_byte (b ∷ s)) (after_line (b ∷ s)) (up_to_without newline_byte (b ∷ s)))
-        ∙ ap (λ (t : List ℕ). fed_fault c (feed c (fed_of c (ls ++ (slot_says (line_of t) ∷ []))) (after_line (b ∷ s)))) (line_cut (b ∷ s) e)
+        ∙ ap (λ (t : List ℕ). fed_fault c (feed c (fed_of c (ls ++ (slot_says (line_of t) ∷ []))) (after_line (b ∷ s)))) (line_cut (b ∷ s)
+        e)
         ∙ ih
         ∙ ap (lines_fault_in c) (append_assoc ls (slot_says (line_of (b ∷ s)) ∷ []) (lines_by slot_says bad_line k (after_line (b ∷ s)))
         ∙ ap (λ (ms : List LogLine). ls ++ ms) (sym (by_ended slot_says bad_line k b s e)))

@@ -11,7 +11,9 @@ use Rattle.rules.specs.Text.{return_byte, tab_byte, same, has}
 use Rattle.lists.specs.Lists.{picked}
 use Rattle.texts.specs.Fields.{without_head}
 use Rattle.feeds.specs.NumScan.{NumScan, num_bad, num_so_far, num_byte, num_all, num_end, num_bad_lem}
-use Rattle.feeds.specs.LineScan.{unread, wrong, in_word, in_time, in_task, returned, LineScan, at_start, time_at, task_at, after_time, after_task, field_byte, field_all, heard_bad, heard, Heard, heard_time, heard_task, line_end, after_return, at_return, scan_byte, scan_all}
+use Rattle.feeds.specs.LineScan.{unread, wrong, in_word, in_time, in_task, returned, LineScan, at_start, time_at, task_at, after_time}
+use Rattle.feeds.specs.LineScan.{after_task, field_byte, field_all, heard_bad, heard, Heard, heard_time, heard_task, line_end, after_return}
+use Rattle.feeds.specs.LineScan.{at_return, scan_byte, scan_all}
 
 -- ---- scanning in two parts
 pub fields_append : (x : LineScan) (a b : List ℕ) → field_all x (a ++ b) ≡ field_all (field_all x a) b

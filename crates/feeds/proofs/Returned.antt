@@ -15,7 +15,8 @@ use Rattle.lists.specs.Lists.{picked}
 use Rattle.texts.specs.Fields.{without_head}
 use Rattle.feeds.specs.NumScan.{NumScan, num_bad, num_so_far, num_byte, num_end}
 use Rattle.feeds.specs.LineScan.{LineScan, unread, wrong, in_word, in_time, in_task, returned, time_at, task_at, after_time, after_task}
-use Rattle.feeds.specs.LineScan.{word_tab, word_byte, field_byte, field_all, Heard, heard_bad, heard, heard_time, heard_task, line_end, hears}
+use Rattle.feeds.specs.LineScan.{word_tab, word_byte, field_byte, field_all, Heard, heard_bad, heard, heard_time, heard_task, line_end}
+use Rattle.feeds.specs.LineScan.{hears}
 use Rattle.feeds.specs.LineScan.{after_return, at_return, scan_byte, scan_all}
 use Rattle.feeds.proofs.LineScan.{wrong_ends}
 use Rattle.feeds.proofs.LineHeard.{fields_heard}
@@ -115,7 +116,8 @@ return_within : (d : ℕ) (l rest : List ℕ) (x : LineScan) → Reads x → eqb
 return_within d l rest x r h = lost ∙ sym (ap (λ (s : List ℕ). line_end (field_all x s)) on ∙ bad _)
   where
     lost : line_end (scan_all x (return_byte ∷ d ∷ l)) ≡ heard_bad
-    lost = unfold scan_all scan_byte line_end in (ap (λ (y : LineScan). line_end (scan_all y l)) (return_lost x d) ∙ ap line_end (lost_stays l))
+    lost = unfold scan_all scan_byte line_end in
+        (ap (λ (y : LineScan). line_end (scan_all y l)) (return_lost x d) ∙ ap line_end (lost_stays l))
 
     on : line_of (return_byte ∷ d ∷ (l ++ (newline_byte ∷ rest))) ≡ return_byte ∷ line_of (d ∷ (l ++ (newline_byte ∷ rest)))
     on = unfold line_of line_return in rw h

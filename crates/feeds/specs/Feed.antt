@@ -73,7 +73,8 @@ fed_answer c f = settled (first (case_fault c ∷ fed_fault c f ∷ [])) []
 
 -- ---- the state after whole lines
 unfoldable pub fed_of : Case → List LogLine → Feed
-fed_of c ls = feed_of unread (length ls) (followed (setup_in c) (released_at c) (sets_of ls) (length ls)) (first_of (line_fault c ls) (length ls))
+fed_of c ls = feed_of unread (length ls) (followed (setup_in c) (released_at c) (sets_of ls) (length ls)) (first_of (line_fault c ls)
+    (length ls))
 
 -- pieces of any length, one after the other
 unfoldable pub feed_pieces : Case → Feed → List (List ℕ) → Feed

@@ -72,7 +72,8 @@ field_byte wrong b = wrong
 field_byte (in_word ws) b = pick (eqb b tab_byte) (word_tab ws) (word_byte ws b)
 field_byte (in_time k v) b = pick (eqb b tab_byte) (after_time (num_end (num_so_far k v))) (time_at (num_byte (num_so_far k v) b))
 field_byte (in_task t low rises names set k v) b =
-    pick (eqb b tab_byte) (after_task t low rises names set (num_end (num_so_far k v))) (task_at t low rises names set (num_byte (num_so_far k v) b))
+    pick (eqb b tab_byte) (after_task t low rises names set (num_end (num_so_far k v))) (task_at t low rises names set (num_byte
+    (num_so_far k v) b))
 field_byte (returned t rises names set) b = wrong
 
 unfoldable pub field_all : LineScan → List ℕ → LineScan

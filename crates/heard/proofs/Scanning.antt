@@ -1,4 +1,5 @@
--- One byte more of a line: the steps of `field_byte`, `at_return` and `line_end` (feeds, LineScan) as the code takes them, and the set as it
+-- One byte more of a line: the steps of `field_byte`, `at_return` and `line_end` (feeds, LineScan) as the code takes them, and the set as
+-- it
 -- stands in an array.
 use mathlib.Core.Path.{◌≡◌, refl, sym, ap, ◌∙◌, fun_ext}
 use mathlib.Core.Bool.{Bool, true, false, ◌&&◌, or-true, or-false, and-false, true≢false}
@@ -22,7 +23,8 @@ use Rattle.rules.specs.Log.{slot_word, set_named}
 use Rattle.lists.specs.Tests.{and_left, and_right}
 use Rattle.feeds.specs.NumScan.{num_so_far, fits, num_byte, num_end}
 use Rattle.feeds.specs.LineScan.{LineScan, wrong, in_time, in_task, is_name, with_name, after_time}
-use Rattle.feeds.specs.LineScan.{after_task, word_tab, word_byte, field_byte, Heard, heard_bad, heard, heard_time, heard_task, line_end, at_start}
+use Rattle.feeds.specs.LineScan.{after_task, word_tab, word_byte, field_byte, Heard, heard_bad, heard, heard_time, heard_task, line_end}
+use Rattle.feeds.specs.LineScan.{at_start}
 use Rattle.feeds.specs.LineScan.{after_return, at_return, scan_byte}
 use Rattle.feeds.specs.Bounds.{NumSmall, LineSmall}
 use Rattle.heard.specs.declared.Ended.{Ended}

@@ -4,7 +4,8 @@
 ghost use Rattle.std.specs.Prelude.{◌≡◌, true, ◌&&◌, ◌||◌, ◌+◌, ◌<◌, leb};
 ghost use Rattle.rules.specs.Words.{bit};
 ghost use Rattle.rules.specs.Limits.{max_tasks};
-ghost use Rattle.rules.specs.Slot.{is_present, is_demoted, left_of, free_of, due_of, is_missed, judged_task, demotes, is_demoted_now, lowered_job};
+ghost use Rattle.rules.specs.Slot.{is_present, is_demoted, left_of, free_of, due_of, is_missed, judged_task, demotes, is_demoted_now};
+ghost use Rattle.rules.specs.Slot.{lowered_job};
 ghost use Rattle.rules.specs.Slot.{lowered_task, is_last, worked_job, worked_task};
 ghost use Rattle.rules.specs.Policies.{demoting};
 ghost use Rattle.jobs.specs.Tasks.{is_normal, Early, Startable, started_task, readied_task, demoted_job, demoted_if, lowered_if};

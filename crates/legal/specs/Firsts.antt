@@ -1,4 +1,5 @@
--- The first fault of many tests, as a loop or a row of tests finds it: laws of `unless`, `or_next`, `first` and `first_of` (rules, Refusals).
+-- The first fault of many tests, as a loop or a row of tests finds it: laws of `unless`, `or_next`, `first` and `first_of` (rules,
+-- Refusals).
 -- A row is proved here once for any list of tests. Cited by Passing, Legal and the proofs of every call's checks.
 use Rattle.std.specs.Prelude.{◌≡◌, refl, Bool, true, false, ◌⊎◌, List, [], ◌∷◌, ◌++◌, ℕ, zero, suc, ◌+◌, ◌-◌, ◌<◌, eqb}
 use Rattle.std.proofs.Common.{ap, ap₂, sym, ◌∙◌, inl, inr, eq-or-lt_of_le, add-one, arith, eqb-true, eq-eqb, ne_eqb}

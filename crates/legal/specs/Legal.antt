@@ -12,8 +12,10 @@ use Rattle.std.proofs.lemmas.Bool.{eqb-false}
 use Rattle.rules.specs.Words.{pick}
 use Rattle.rules.specs.Case.{Case, task_count, period, execution, deadline, release_count, time_of, name_of}
 use Rattle.rules.specs.Policies.{max_policy}
-use Rattle.rules.specs.Refusals.{procs_fault, policy_fault, table_fault, tasks_fault, end_fault, trace_fault, last_before, later_than, in_order}
-use Rattle.rules.specs.Refusals.{apart, releases_fault, absences_fault, room_fault, slot_fault, case_tests, case_fault, counts_tests, counts_fault}
+use Rattle.rules.specs.Refusals.{procs_fault, policy_fault, table_fault, tasks_fault, end_fault, trace_fault, last_before, later_than}
+use Rattle.rules.specs.Refusals.{in_order}
+use Rattle.rules.specs.Refusals.{apart, releases_fault, absences_fault, room_fault, slot_fault, case_tests, case_fault, counts_tests}
+use Rattle.rules.specs.Refusals.{counts_fault}
 use Rattle.rules.specs.Refusals.{replay_fault, running_fault, Accepted}
 use Rattle.rules.specs.Limits.{max_procs, max_tasks, max_end, max_releases, task_width, release_width, record_width}
 use Rattle.lists.specs.Tests.{and_left, or_cases}

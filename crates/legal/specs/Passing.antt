@@ -10,7 +10,8 @@ use Rattle.rules.specs.Limits.{max_procs, max_tasks, max_period, max_end, max_re
 use Rattle.rules.specs.Case.{task_count, period, execution, deadline, release_count, time_of, name_of}
 use Rattle.rules.specs.Policies.{max_policy}
 use Rattle.rules.specs.Refusals.{no_fault, procs_fault, policy_fault, table_fault, task_stands, task_fault, tasks_fault, end_fault}
-use Rattle.rules.specs.Refusals.{trace_fault, named, last_before, in_order, apart, release_tests, release_fault, releases_fault, releases_of}
+use Rattle.rules.specs.Refusals.{trace_fault, named, last_before, in_order, apart, release_tests, release_fault, releases_fault}
+use Rattle.rules.specs.Refusals.{releases_of}
 use Rattle.rules.specs.Refusals.{fault_of, absent_fault, absences_fault, room_fault, slot_fault}
 use Rattle.lists.specs.Tests.{and_left, and_right}
 use Rattle.lists.specs.Sums.{count_none, count_there, count_some}

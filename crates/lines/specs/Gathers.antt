@@ -4,7 +4,8 @@ use Rattle.std.specs.Prelude.{ℕ, ◌+◌, ◌≤◌, ◌<◌, ◌≡◌, List,
 use Rattle.rules.specs.Limits.{task_width, release_width}
 use Rattle.rules.specs.Case.{Case}
 use Rattle.rules.specs.Text.{after_line}
-use Rattle.rules.specs.Reader.{kind_of, lines_of, Order, case_order, lines_fault, policy_when_absent, with_lines, case_with_default, case_in}
+use Rattle.rules.specs.Reader.{kind_of, lines_of, Order, case_order, lines_fault, policy_when_absent, with_lines, case_with_default}
+use Rattle.rules.specs.Reader.{case_in}
 use Rattle.kinds.specs.Says.{Opens}
 use Rattle.lines.specs.declared.Step.{Step}
 use Rattle.lines.specs.declared.HeadRead.{HeadRead}

@@ -1,7 +1,8 @@
 -- Loops that write an array in order towards a list that is known beforehand, and loops that write over a slice: what holds of them at each
 -- turn, and how it goes on. Cited by the proofs of the loops in counts, choice, slot, slots and reader.
 use Rattle.std.specs.Prelude.{◌≡◌, refl, List, ◌++◌, ℕ, suc, ◌+◌, ◌≤◌, ◌<◌, length, take, drop, get_or, set}
-use Rattle.std.proofs.Common.{ap, sym, ◌∙◌, append-nil, add-one, zero-add, arith, length-append, length-drop, drop_of_length-le, drop-cons, take-suc, take_all, length-take-le}
+use Rattle.std.proofs.Common.{ap, sym, ◌∙◌, append-nil, add-one, zero-add, arith, length-append, length-drop, drop_of_length-le, drop-cons}
+use Rattle.std.proofs.Common.{take-suc, take_all, length-take-le}
 use Rattle.std.proofs.lemmas.List.{set_at, get_or_at, set-get_or}
 use Rattle.std.proofs.Math.Seq.{append_snoc}
 use Rattle.rules.specs.Words.{map_at, tab}

@@ -1,8 +1,10 @@
 -- Lists made or changed by index, texts that stand one after the other, choices, and the tasks of a set: laws of `tab`, `map_at`, `pick`
 -- (rules, Words), `joined_text` (rules, Writer) and `tasks_from` (rules, Slot). Nothing of scheduling.
 -- A run is a list of tasks, and the records are a list of numbers: most laws cite these.
-use Rattle.std.specs.Prelude.{◌≡◌, refl, Bool, true, false, ◌⊎◌, List, [], ◌∷◌, ◌++◌, map, ℕ, zero, suc, ◌+◌, ◌≤◌, ◌<◌, length, get_or, set, take}
-use Rattle.std.proofs.Common.{sym, ap, ap₂, ◌∙◌, inl, inr, append_assoc, append-nil, not-suc-le-zero, add-zero, add-suc, suc-add, zero-add, arith}
+use Rattle.std.specs.Prelude.{◌≡◌, refl, Bool, true, false, ◌⊎◌, List, [], ◌∷◌, ◌++◌, map, ℕ, zero, suc, ◌+◌, ◌≤◌, ◌<◌, length, get_or, set}
+use Rattle.std.specs.Prelude.{take}
+use Rattle.std.proofs.Common.{sym, ap, ap₂, ◌∙◌, inl, inr, append_assoc, append-nil, not-suc-le-zero, add-zero, add-suc, suc-add, zero-add}
+use Rattle.std.proofs.Common.{arith}
 use Rattle.std.proofs.Math.ListN.{get_or-append}
 use Rattle.std.proofs.Math.Seq.{take-append_seam}
 use Rattle.rules.specs.Words.{pick, map_from, map_at, tab}

@@ -40,7 +40,8 @@ pub log_demoted_meets : (c : Case) (s : List ℕ) → LogAccepted c s → demoti
     → 0 < demotion_in (log_course c s) (task_at c j) (time_of c.trace j)
     → (time_of c.trace j < finish_in (log_course c s) (task_at c j) (time_of c.trace j))
     × (finish_in (log_course c s) (task_at c j) (time_of c.trace j) ≤ due_at c j)
-log_demoted_meets c s e cf j h d = follows_demoted_meets c (accepted_lined c s e).0 cf (sets_of (log_lines s)) (accepted_follows c s e) j h d
+log_demoted_meets c s e cf j h d =
+    follows_demoted_meets c (accepted_lined c s e).0 cf (sets_of (log_lines s)) (accepted_follows c s e) j h d
 
 -- the log takes the lower task on every tie of kind and deadline
 abbrev pub LowerOnTies : Case → List ℕ → Type 0

@@ -14,7 +14,8 @@ use Rattle.rules.specs.Text.{same, up_to, past, has, line_return, line_of, after
 use Rattle.rules.specs.Text.{is_number, worth, lines_by, number_in, digits_in, digits_of}
 use Rattle.rules.specs.Writer.{more_fields, line_text}
 use Rattle.rules.specs.Log.{slot_word, fields_in, fields_of, with_numbers, slot_says, log_lines, rise_past, rising, well_formed}
-use Rattle.rules.specs.Log.{keeps_rule, set_named, name_tasks, slot_stands, followed, sets_of, line_fault, lines_fault_in, log_fault, log_answer}
+use Rattle.rules.specs.Log.{keeps_rule, set_named, name_tasks, slot_stands, followed, sets_of, line_fault, lines_fault_in, log_fault}
+use Rattle.rules.specs.Log.{log_answer}
 use Rattle.rules.specs.Log.{slot_line_text}
 use Rattle.theory.specs.Instances.{case_a, later_a}
 
@@ -95,10 +96,14 @@ pub record Computed : Type 0 where
       × (log_answer (case_of 0 edf [] 0 []) (10 ∷ []) ≡ refusal 4 0)
 
 pub computed : Computed
-unfolding log_answer settled log_fault case_fault or_next first_of procs_fault policy_fault table_fault task_fault end_fault trace_fault in_order
-    last_before release_fault absent_fault lines_fault_in line_fault log_lines lines_by slot_says fields_of fields_in with_numbers same up_to past
-    has line_return line_of after_line field_of after_field all_digits no_leading_zero is_number worth number_in well_formed rising rise_past slot_stands
-    name_tasks set_named keeps_rule holds_below followed sets_of sum tab map_from availability availabilities count free_count present judged
+unfolding log_answer settled log_fault case_fault or_next first_of procs_fault policy_fault table_fault task_fault end_fault trace_fault
+    in_order
+    last_before release_fault absent_fault lines_fault_in line_fault log_lines lines_by slot_says fields_of fields_in with_numbers same
+    up_to past
+    has line_return line_of after_line field_of after_field all_digits no_leading_zero is_number worth number_in well_formed rising
+    rise_past slot_stands
+    name_tasks set_named keeps_rule holds_below followed sets_of sum tab map_from availability availabilities count free_count present
+    judged
     joined demoted jobs_now contention_free lowered opened worked released_in slot_line_text line_text more_fields digits_of digits_in
 computed = record {
   ties = (refl, refl, refl);

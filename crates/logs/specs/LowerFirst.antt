@@ -8,7 +8,8 @@ use Rattle.rules.specs.Limits.{max_tasks}
 use Rattle.rules.specs.declared.Job.{Job}
 use Rattle.rules.specs.declared.Run.{Run}
 use Rattle.rules.specs.Case.{Case}
-use Rattle.rules.specs.Slot.{Setup, TaskSet, job_at, is_present, present, due_of, kind, in_turn, job_before, comes_before, chosen, opened, ran}
+use Rattle.rules.specs.Slot.{Setup, TaskSet, job_at, is_present, present, due_of, kind, in_turn, job_before, comes_before, chosen, opened}
+use Rattle.rules.specs.Slot.{ran}
 use Rattle.rules.specs.Replay.{setup_in, released_at, state_at, ran_at}
 use Rattle.rules.specs.Log.{sooner, opened_by}
 use Rattle.lists.specs.Tests.{and_left, and_right}

@@ -3,7 +3,8 @@
 use Rattle.std.specs.Prelude.{◌≡◌, refl, true, false, List, [], ◌∷◌, ◌++◌, map, ℕ, zero, suc, ◌^◌, ◌≤◌, ◌<◌, length}
 use Rattle.std.proofs.Common.{sym, ap, ◌∙◌, true≢false, arith, length-append}
 use Rattle.rules.specs.Text.{newline_byte, return_byte, tab_byte, same, has, field_of, after_field, digits_of}
-use Rattle.rules.specs.Log.{LogLine, bad_line, slot_line, slot_word, fields_in, fields_of, with_value, with_numbers, time_and_tasks, slot_fields}
+use Rattle.rules.specs.Log.{LogLine, bad_line, slot_line, slot_word, fields_in, fields_of, with_value, with_numbers, time_and_tasks}
+use Rattle.rules.specs.Log.{slot_fields}
 use Rattle.rules.specs.Log.{slot_says, slot_line_text}
 use Rattle.lists.specs.Lists.{picked}
 use Rattle.texts.specs.Digits.{written_reads, reads_written}

@@ -22,7 +22,8 @@ count_word = 99 ∷ 111 ∷ 117 ∷ 110 ∷ 116 ∷ []
 abbrev pub running_word : List ℕ
 running_word = 114 ∷ 117 ∷ 110 ∷ 110 ∷ 105 ∷ 110 ∷ 103 ∷ []
 
--- the words of lines in their order: 1 to 5 in the case text, as `word_kind` of rules has them, 6 to 10 in what is printed, 11 in a slot log
+-- the words of lines in their order: 1 to 5 in the case text, as `word_kind` of rules has them, 6 to 10 in what is printed, 11 in a slot
+-- log
 abbrev pub line_words : List (List ℕ)
 line_words =
     run_word ∷ procs_word ∷ policy_word ∷ task_word ∷ end_word ∷ release_word ∷

@@ -32,7 +32,8 @@ write_read s tasks releases vs room h p =
     let hand : in_hand vs (read_tasks s tasks releases) (read_releases s tasks releases) ≡ case_in s =
     ap (λ l. in_hand l (read_tasks s tasks releases) (read_releases s tasks releases)) (sym a.1)
     ∙ (read_as s tasks releases a.0 (legal (case_in s) e)).in_hand_lem in
-    rw hand (subst (WrittenAs (case_in s) room) text (written_as_lem (case_in s) room (write_clear (case_in s) (length room) e (rw text p))))
+    rw hand (subst (WrittenAs (case_in s) room) text (written_as_lem (case_in s) room (write_clear (case_in s) (length room) e (rw text
+    p))))
 
 -- writing what was read gives the text with its policy line where it was absent and without its returns
 pub written_what_was_read : (s tasks releases : List ℕ) (r : Taken) (ts rs vs bytes : List ℕ) (w : Written) (later : List ℕ)

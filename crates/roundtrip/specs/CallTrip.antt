@@ -21,7 +21,8 @@ use Rattle.roundtrip.specs.RoundTrip.{case_written, no_fault-written}
 -- ---- the case that a caller has in hand after reading: the values of the answer, and as many numbers of the two rooms
 unfoldable pub in_hand : List ℕ → List ℕ → List ℕ → Case
 in_hand vs tasks releases =
-    case_of (get_or vs 0 0) (get_or vs 1 0) (take (get_or vs 3 0 * task_width) tasks) (get_or vs 2 0) (take (get_or vs 4 0 * release_width) releases)
+    case_of (get_or vs 0 0) (get_or vs 1 0) (take (get_or vs 3 0 * task_width) tasks) (get_or vs 2 0) (take (get_or vs 4 0 * release_width)
+    releases)
 
 -- what it means that the reader reads a case in a text, by its definitions
 pub record ReadAs (s tasks releases : List ℕ) (c : Case) : Type 0 where

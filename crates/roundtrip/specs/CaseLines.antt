@@ -1,4 +1,5 @@
--- The lines of a case: they are what the writer writes (`case_text`), they hold the case (`with_lines`), and of an accepted case they are in
+-- The lines of a case: they are what the writer writes (`case_text`), they hold the case (`with_lines`), and of an accepted case they are
+-- in
 -- order, read as they are written and fit into 60,000 bytes. RoundTrip puts these together; the program cites the last.
 use Rattle.std.specs.Prelude.{◌≡◌, refl, List, [], ◌∷◌, ◌++◌, ℕ, zero, suc, ◌+◌, ◌^◌, ◌≤◌, ◌<◌, length}
 use Rattle.std.proofs.Common.{sym, ap, ap₂, ◌∙◌, arith}
@@ -32,7 +33,8 @@ case_lines c = Procs c.procs ∷ Policy c.policy ∷ (row_lines c.table ++ (End 
 
 -- the text of a case is the text of its lines
 pub case_text_lem : (c : Case) → case_text c ≡ text_of (case_lines c)
-unfolding case_text case_lines text_of joined_text procs_text policy_text task_text end_text release_text line_bytes word_in fields_in row_at release_at
+unfolding case_text case_lines text_of joined_text procs_text policy_text task_text end_text release_text line_bytes word_in fields_in
+    row_at release_at
 case_text_lem c =
     let rows = row_lines c.table in
     let releases = release_lines c.trace in

@@ -4,7 +4,8 @@ use Rattle.std.specs.Prelude.{◌≡◌, refl, true, false, ◌⊎◌, List, [],
 use Rattle.std.proofs.Common.{sym, ap, ◌∙◌, true≢false, inl, inr, arith}
 use Rattle.rules.specs.declared.Line.{Line}
 use Rattle.rules.specs.declared.Line.TheVariants.{Bad, Procs, Policy, Row, End, Release}
-use Rattle.rules.specs.Text.{newline_byte, return_byte, tab_byte, same, has, field_of, after_field, digits_of, procs_word, policy_word, task_word}
+use Rattle.rules.specs.Text.{newline_byte, return_byte, tab_byte, same, has, field_of, after_field, digits_of, procs_word, policy_word}
+use Rattle.rules.specs.Text.{task_word}
 use Rattle.rules.specs.Text.{end_word, release_word}
 use Rattle.rules.specs.Policies.{max_policy, policy_name}
 use Rattle.rules.specs.Reader.{with_number, one_number, two_numbers, three_numbers, policy_in, word_kind, fields_say, line_says, kind_of}

@@ -1,4 +1,5 @@
--- What the rule of a slot (`keeps_rule` of rules, Log) looks at, and so what it does not: it goes by the members of the set below 32, and by
+-- What the rule of a slot (`keeps_rule` of rules, Log) looks at, and so what it does not: it goes by the members of the set below 32, and
+-- by
 -- presence, kind and deadline of each job. Step 4 keeps all three, so a set may be judged on the run before it or after it. For whoever
 -- checks a log: the code judges the run after steps 1 to 3 and a set in an array, the definition the run after step 4 and a set of names.
 use Rattle.std.specs.Prelude.{◌≡◌, refl, ◌||◌, ℕ, min, ◌<◌, length}

@@ -1,6 +1,7 @@
 -- Lines, fields and numbers of a case text (document 01, "The case text", and request P4): where a line and a field end, which bytes are
 -- a number and what it is worth, the digits of a number, the words. The reader, the writer and the printed lines are all made of these.
-use Rattle.std.specs.Prelude.{ℕ, zero, suc, ◌+◌, ◌-◌, ◌*◌, ◌/◌, ◌%◌, List, [], ◌∷◌, ◌++◌, Bool, true, false, ◌&&◌, ◌||◌, not, length, eqb, ltb, leb}
+use Rattle.std.specs.Prelude.{ℕ, zero, suc, ◌+◌, ◌-◌, ◌*◌, ◌/◌, ◌%◌, List, [], ◌∷◌, ◌++◌, Bool, true, false, ◌&&◌, ◌||◌, not, length, eqb}
+use Rattle.std.specs.Prelude.{ltb, leb}
 use Rattle.rules.specs.Words.{pick}
 use Rattle.rules.specs.declared.Num.{Num}
 use Rattle.rules.specs.declared.Num.TheVariants.{Value, Bad}

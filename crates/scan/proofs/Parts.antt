@@ -145,9 +145,11 @@ line_whole (b ∷ (d ∷ t)) h = go (eqb b newline_byte) (eqb d newline_byte) (e
     go : (e f q : Bool) → eqb b return_byte ≡ q
         → ((p : ℕ) → (suc p ≡ length (pick e [] (b ∷ pick f [] (d ∷ up_to newline_byte t)))) × (suc p < length (b ∷ d ∷ t))
         × (get_or (b ∷ d ∷ t) p 0 ≡ return_byte) → ⊥)
-        → (((p : ℕ) → (suc p ≡ length (pick f [] (d ∷ up_to newline_byte t))) × (suc p < length (d ∷ t)) × (get_or (d ∷ t) p 0 ≡ return_byte)
+        → (((p : ℕ) → (suc p ≡ length (pick f [] (d ∷ up_to newline_byte t))) × (suc p < length (d ∷ t))
+        × (get_or (d ∷ t) p 0 ≡ return_byte)
         → ⊥) → pick (f || line_return d t) [] (d ∷ line_of t) ≡ pick f [] (d ∷ up_to newline_byte t))
-        → pick (e || (q && f)) [] (b ∷ pick (f || line_return d t) [] (d ∷ line_of t)) ≡ pick e [] (b ∷ pick f [] (d ∷ up_to newline_byte t))
+        → pick (e || (q && f)) [] (b ∷ pick (f || line_return d t) [] (d ∷ line_of t))
+        ≡ pick e [] (b ∷ pick f [] (d ∷ up_to newline_byte t))
     go true f q z h more = refl
     go false true true z h more = absurd (h 0 (refl, omega arith, eqb-true b return_byte z))
     go false true false z h more = refl

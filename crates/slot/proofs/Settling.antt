@@ -14,7 +14,8 @@ use Rattle.rules.specs.Policies.{demoting}
 use Rattle.rules.specs.Slot.{Setup, TaskSet, free_count_in, no_task, run_of, with_job, job_at, is_present, present, each_task, is_missed}
 use Rattle.rules.specs.Slot.{judged_task}
 use Rattle.rules.specs.Slot.{judged}
-use Rattle.rules.specs.Slot.{released_task, joined_task, joined, readied, is_demoted_now, demoted_task, demoted, jobs_now, missed, demoted_now}
+use Rattle.rules.specs.Slot.{released_task, joined_task, joined, readied, is_demoted_now, demoted_task, demoted, jobs_now, missed}
+use Rattle.rules.specs.Slot.{demoted_now}
 use Rattle.rules.specs.declared.Job.{Job}
 use Rattle.rules.specs.declared.Job.TheVariants.{Idle}
 use Rattle.rules.specs.declared.Task.{Task}

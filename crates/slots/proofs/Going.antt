@@ -11,7 +11,8 @@ use Rattle.rules.specs.Words.{tab}
 use Rattle.rules.specs.Limits.{max_tasks, record_width}
 use Rattle.rules.specs.Case.{Case, release_count}
 use Rattle.rules.specs.Slot.{job_at, is_missed, missed}
-use Rattle.rules.specs.Replay.{setup_in, released_at, fresh, state_from, state_at, ran_at, finished_at, missed_at, demoted_at, record_by, numbers}
+use Rattle.rules.specs.Replay.{setup_in, released_at, fresh, state_from, state_at, ran_at, finished_at, missed_at, demoted_at, record_by}
+use Rattle.rules.specs.Replay.{numbers}
 use Rattle.lists.specs.Lists.{tab_at, tab_cong, members}
 use Rattle.legal.specs.Legal.{Legal}
 use Rattle.bridge.specs.Stands.{state_full}

@@ -7,7 +7,8 @@ use Rattle.rules.specs.Words.{pick}
 use Rattle.rules.specs.Case.{Case}
 use Rattle.rules.specs.Refusals.{first, case_fault}
 use Rattle.rules.specs.Text.{newline_byte, return_byte, up_to, past, has, after_line, lines_by}
-use Rattle.rules.specs.Reader.{line_says, lines_of, case_order, lines_fault, policy_when_absent, no_case, with_lines, case_with_default, case_in}
+use Rattle.rules.specs.Reader.{line_says, lines_of, case_order, lines_fault, policy_when_absent, no_case, with_lines, case_with_default}
+use Rattle.rules.specs.Reader.{case_in}
 use Rattle.rules.specs.Reader.{length_fault, text_fault}
 use Rattle.rules.specs.Log.{bad_line, slot_says, log_lines}
 use Rattle.lists.specs.Lists.{picked}

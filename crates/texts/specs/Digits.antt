@@ -1,8 +1,10 @@
 -- Numbers and their digits (`number_in`, `digits_of` of rules, Text): what is written of a number reads as that number, and what reads as a
 -- number is what is written of it. Also how many digits there are, and that a field of digits is well formed. For Fields and LineTrip.
-use Rattle.std.specs.Prelude.{◌≡◌, true, ◌&&◌, ◌⊎◌, List, [], ◌∷◌, ◌++◌, ℕ, zero, suc, ◌+◌, ◌-◌, ◌*◌, ◌/◌, ◌%◌, ◌^◌, ◌≤◌, ◌<◌, eqb, leb, ltb, length, get_or}
+use Rattle.std.specs.Prelude.{◌≡◌, true, ◌&&◌, ◌⊎◌, List, [], ◌∷◌, ◌++◌, ℕ, zero, suc, ◌+◌, ◌-◌, ◌*◌, ◌/◌, ◌%◌, ◌^◌, ◌≤◌, ◌<◌, eqb, leb}
+use Rattle.std.specs.Prelude.{ltb, length, get_or}
 use Rattle.std.proofs.Math.Path.{refl}
-use Rattle.std.proofs.Common.{sym, ap, ap₂, ◌∙◌, inl, inr, append_assoc, append-nil, pow-suc, add-suc, suc-add, add-zero, arith, length-append, ne_eqb, le-leb, leb-true, lt-ltb, le-ltb, ltb-true, ltb-false}
+use Rattle.std.proofs.Common.{sym, ap, ap₂, ◌∙◌, inl, inr, append_assoc, append-nil, pow-suc, add-suc, suc-add, add-zero, arith}
+use Rattle.std.proofs.Common.{length-append, ne_eqb, le-leb, leb-true, lt-ltb, le-ltb, ltb-true, ltb-false}
 use Rattle.std.proofs.Math.Nat.{pow-le-pow_right}
 use Rattle.std.proofs.Math.ListN.{get_or-append}
 use Rattle.std.proofs.lemmas.Bool.{eqb-false, not-true}
@@ -93,7 +95,10 @@ digits_of_lem : (j k n : ℕ) → k + j ≡ 9 → n < 10 ^ suc k → digits_of n
 unfolding digits_of
 digits_of_lem zero k n e h = let z : k ≡ 9 = omega arith in rw z
 digits_of_lem (suc j) k n e h =
-    digits_of_lem j (suc k) n (omega arith) (omega (arith, pow-le-pow_right {n = 10} (omega arith) {i = suc k} {j = suc (suc k)} (omega arith)))
+    digits_of_lem j (suc k) n (omega arith) (omega (
+      arith,
+      pow-le-pow_right {n = 10} (omega arith) {i = suc k} {j = suc (suc k)} (omega arith),
+    ))
     ∙ sym (digits_room k n h)
 
 pub digits_some : (n : ℕ) → 1 ≤ length (digits_of n)

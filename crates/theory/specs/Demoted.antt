@@ -9,7 +9,8 @@ use Rattle.rules.specs.Case.{execution, deadline}
 use Rattle.rules.specs.Policies.{demoting}
 use Rattle.rules.specs.Slot.{job_at, is_present, is_demoted, free_count_in, released_job}
 use Rattle.bridge.specs.Jobs.{Stand, written}
-use Rattle.bridge.specs.Course.{Course, state_in, contention_free_in, finish_in, demotion_in, found_in, next_in, Sole, left_stands, found_next}
+use Rattle.bridge.specs.Course.{Course, state_in, contention_free_in, finish_in, demotion_in, found_in, next_in, Sole, left_stands}
+use Rattle.bridge.specs.Course.{found_next}
 use Rattle.theory.specs.Lawful.{Attends, present_in}
 use Rattle.theory.specs.Story.{story, Attended, story_none_demoted}
 

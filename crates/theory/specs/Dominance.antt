@@ -10,7 +10,8 @@ use Rattle.rules.specs.Words.{pick, count_in}
 use Rattle.rules.specs.Limits.{max_tasks}
 use Rattle.rules.specs.Case.{Case, under}
 use Rattle.rules.specs.Policies.{edf, demoting}
-use Rattle.rules.specs.Slot.{job_at, is_present, is_demoted, left_of, due_of, is_missed, released_job, job_before, comes_before, rank, present}
+use Rattle.rules.specs.Slot.{job_at, is_present, is_demoted, left_of, due_of, is_missed, released_job, job_before, comes_before, rank}
+use Rattle.rules.specs.Slot.{present}
 use Rattle.rules.specs.Slot.{chosen, ran, opened, worked_job}
 use Rattle.rules.specs.Replay.{setup_in, released_at, state_at, ran_at}
 use Rattle.lists.specs.Sums.{count_mono}
@@ -99,7 +100,8 @@ module _ (c : Case) (cf : demoting c.policy ≡ true) where
       go false = dom_judged t (job_at (state_at E t) i) (job_at (state_at c t) i) h
 
   open_dom : (t i : ℕ) → Dom (ready_at E t i) (ready_at c t i) → Dom (open_at E t i) (open_at c t i)
-  open_dom t i h = dom_opened (demoting c.policy) (lowers (setup_in c) t (released_at c t) (state_at c t)) (ready_at E t i) (ready_at c t i) h
+  open_dom t i h = dom_opened (demoting c.policy) (lowers (setup_in c) t (released_at c t) (state_at c t)) (ready_at E t i) (ready_at c t
+      i) h
 
   runs_dom : (t i : ℕ) → i < max_tasks → ((j : ℕ) → j < max_tasks → Dom (open_at E t j) (open_at c t j))
       → is_present (open_at c t i) ≡ true → is_demoted (open_at c t i) ≡ false → ran_at E t i ≡ true → ran_at c t i ≡ true

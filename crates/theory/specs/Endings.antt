@@ -11,7 +11,8 @@ use Rattle.rules.specs.Words.{bit, count_in}
 use Rattle.rules.specs.Limits.{max_tasks}
 use Rattle.rules.specs.Case.{Case, deadline, release_count, time_of, name_of}
 use Rattle.rules.specs.Slot.{job_at, is_present, due_of, present, jobs_now, is_missed, missed}
-use Rattle.rules.specs.Replay.{released_at, state_at, closing, missed_at, slots_by, finish_by, demotion_by, verdict_of, verdict_by, record_by}
+use Rattle.rules.specs.Replay.{released_at, state_at, closing, missed_at, slots_by, finish_by, demotion_by, verdict_of, verdict_by}
+use Rattle.rules.specs.Replay.{record_by}
 use Rattle.lists.specs.Sums.{sum_cong, sum_swap, count_none}
 use Rattle.bridge.specs.Steps.{judged_job, judged_at}
 use Rattle.bridge.specs.Jobs.{Stand}

@@ -12,7 +12,8 @@ use Rattle.rules.specs.Refusals.{last_before}
 use Rattle.rules.specs.Refusals.{fault_of, release_fault, absent_fault, case_fault, Accepted}
 use Rattle.rules.specs.Slot.{present, judged, joined, demoted, jobs_now, contention_free, lowered, opened, job_before, rank, chosen, worked}
 use Rattle.rules.specs.Slot.{after, ran, finished, demoted_now}
-use Rattle.rules.specs.Replay.{setup_in, released_in, released_at, state_from, state_at, ran_at, finished_at, demoted_at, contention_free_at}
+use Rattle.rules.specs.Replay.{setup_in, released_in, released_at, state_from, state_at, ran_at, finished_at, demoted_at}
+use Rattle.rules.specs.Replay.{contention_free_at}
 use Rattle.rules.specs.Replay.{slots_by}
 use Rattle.rules.specs.Replay.{finish_by, demotion_by, verdict_by, record_of, record_by}
 use Rattle.bridge.specs.Course.{Course, state_in, contention_free_in, demoted_in, finished_in, finish_in, demotion_in}
@@ -50,8 +51,10 @@ LowestOfA =
     (case_fault (released_a (0 ∷ 1 ∷ 0 ∷ 1 ∷ [])) ≡ fault_of 9 2)
 
 -- the cases are accepted: the tests are computed
-tested : Accepted (case_a edf_cf 10) × Accepted (case_a edf_cf 1) × Accepted (tight edf_cf) × Accepted crowded × Accepted (later_a edf_cf 10)
-unfolding Accepted case_fault or_next first_of procs_fault policy_fault table_fault task_fault end_fault trace_fault in_order last_before release_fault
+tested : Accepted (case_a edf_cf 10) × Accepted (case_a edf_cf 1) × Accepted (tight edf_cf) × Accepted crowded
+    × Accepted (later_a edf_cf 10)
+unfolding Accepted case_fault or_next first_of procs_fault policy_fault table_fault task_fault end_fault trace_fault in_order last_before
+    release_fault
     sum absent_fault
 tested = (refl, refl, refl, refl, refl)
 
@@ -72,7 +75,8 @@ accepted_later_A = tested.4
 
 -- and set A is refused where it lacks releases
 pub lowest_of_A : LowestOfA
-unfolding Accepted case_fault or_next first_of procs_fault policy_fault table_fault task_fault end_fault trace_fault in_order last_before release_fault
+unfolding Accepted case_fault or_next first_of procs_fault policy_fault table_fault task_fault end_fault trace_fault in_order last_before
+    release_fault
     sum absent_fault
 lowest_of_A = (refl, refl, refl, refl)
 

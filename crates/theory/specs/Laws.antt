@@ -9,7 +9,8 @@ use Rattle.rules.specs.Case.{Case, deadline, release_count, time_of, name_of}
 use Rattle.rules.specs.Refusals.{Accepted}
 use Rattle.rules.specs.Policies.{demoting}
 use Rattle.rules.specs.Slot.{Setup, job_at, is_demoted, left_of, free_of, due_of, present, readied, demoted, jobs_now, opened, ran}
-use Rattle.rules.specs.Replay.{setup_in, released_at, state_at, closing, ran_at, finished_at, missed_at, slots_by, finish_by, verdict_by, record_by}
+use Rattle.rules.specs.Replay.{setup_in, released_at, state_at, closing, ran_at, finished_at, missed_at, slots_by, finish_by, verdict_by}
+use Rattle.rules.specs.Replay.{record_by}
 use Rattle.rules.specs.Replay.{met_jobs, missed_jobs, open_jobs}
 use Rattle.bridge.specs.Steps.{Full, demoted_at_lem}
 use Rattle.bridge.specs.Jobs.{normal_above}

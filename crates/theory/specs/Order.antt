@@ -10,7 +10,8 @@ use Rattle.rules.specs.declared.Job.{Job}
 use Rattle.rules.specs.declared.Run.{Run}
 use Rattle.rules.specs.Words.{count_in}
 use Rattle.rules.specs.Limits.{max_tasks}
-use Rattle.rules.specs.Slot.{Setup, job_at, is_present, is_demoted, kind, due_of, in_turn, present, jobs_now, job_before, comes_before, rank}
+use Rattle.rules.specs.Slot.{Setup, job_at, is_present, is_demoted, kind, due_of, in_turn, present, jobs_now, job_before, comes_before}
+use Rattle.rules.specs.Slot.{rank}
 use Rattle.rules.specs.Slot.{chosen}
 use Rattle.lists.specs.Sums.{count_lt}
 use Rattle.bridge.specs.Jobs.{kind_normal, kind-demoted}

@@ -6,7 +6,8 @@ use Rattle.std.proofs.Common.{◌∙◌, arith}
 use Prim.Native.Nat.{ℕ, zero, suc, ◌+◌, ◌-◌, min, ◌≤◌, ◌<◌}
 use Rattle.rules.specs.Case.{Case, case_of, deadline}
 use Rattle.rules.specs.Slot.{TaskSet, after, finished, demoted_now}
-use Rattle.rules.specs.Replay.{setup_in, released_at, state_from, state_at, finished_at, demoted_at, slots_by, finish_by, demotion_by, verdict_by}
+use Rattle.rules.specs.Replay.{setup_in, released_at, state_from, state_at, finished_at, demoted_at, slots_by, finish_by, demotion_by}
+use Rattle.rules.specs.Replay.{verdict_by}
 use Rattle.rules.specs.Replay.{job_record}
 use Rattle.bridge.specs.Stands.{state_next}
 use Rattle.theory.specs.Counting.{first_cong}

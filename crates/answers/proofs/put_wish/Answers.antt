@@ -5,7 +5,8 @@ use Rattle.answers.proofs.Said.{wish_shown, nothing_shown}
 use Rattle.answers.proofs.put_wish.Goals as goal
 
 pub put_free_counts-requires : goal.put_free_counts-requires
-put_free_counts-requires c = record { print_room_in_bounds = c.requires.print_room_in_bounds; max_tasks_value = counts_fits _ c.requires.accepted }
+put_free_counts-requires c =
+    record { print_room_in_bounds = c.requires.print_room_in_bounds; max_tasks_value = counts_fits _ c.requires.accepted }
 
 pub returns-in-Replay : goal.returns-in-Replay
 unfolding case_says

@@ -27,7 +27,8 @@ job_of-a-requires c =
     let a = c.args in
     let g = setup_of 0 a.policy [] in
     let j = c.waiting_task-j in
-    let within = waiting_within g a.clock a.r (members a.named.now) in record { le_task = omega (arith, c.if-j-eq0.false); task_le_max_tasks = omega (arith, j.ensures 0 [], within) }
+    let within = waiting_within g a.clock a.r (members a.named.now) in
+    record { le_task = omega (arith, c.if-j-eq0.false); task_le_max_tasks = omega (arith, j.ensures 0 [], within) }
 
 pub job_of-b-requires : goal.job_of-b-requires
 job_of-b-requires c =
@@ -35,7 +36,12 @@ job_of-b-requires c =
     let g = setup_of 0 a.policy [] in
     let j = c.waiting_task-j.ensures 0 [] in
     let i = c.overtaking_task-i.ensures 0 [] in
-    let runs = members a.named.now in record { le_task = overtaken g a.clock a.r runs _ _ j c.if-j-eq0.false i; task_le_max_tasks = omega (arith, i, overtaking_within g a.clock a.r runs (c.waiting_task-j.result - 1)) }
+    let runs = members a.named.now in
+    record {
+      le_task = overtaken g a.clock a.r runs _ _ j c.if-j-eq0.false i;
+      task_le_max_tasks =
+          omega (arith, i, overtaking_within g a.clock a.r runs (c.waiting_task-j.result - 1));
+    }
 
 pub overflow_cast-waiting : goal.overflow_cast-waiting
 overflow_cast-waiting c =

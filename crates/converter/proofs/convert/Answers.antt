@@ -50,7 +50,8 @@ returns-then-unfit-ne0 c =
     let clear : (text_fault text).number ≡ 0 = ap (λ (f : Fault). f.number) (sym c.text_fault-wrong.ensures) ∙ c.if-wrong-ne0.false in
     -- whether its policy line is given, how long the converted text is, and what is at fault with that
     let given : c.policy_at-given.result ≡ policy_given text = c.policy_at-given.ensures ∙ given_there _ clear _ c.line_end-at.ensures in
-    let long : length text + c.added.result ≡ length (converted text) = ap (λ (n : ℕ). length text + n) c.added.ensures ∙ put_long _ clear _ given in
+    let long : length text + c.added.result ≡ length (converted text) = ap (λ (n : ℕ). length text + n) c.added.ensures
+    ∙ put_long _ clear _ given in
     let tested : c.size_fault-unfit.result ≡ convert_fault text (length room) = size_tested _ _ _ _ long clear c.size_fault-unfit.ensures in
     refusing text room _ tested c.if-unfit-ne0.true _ c.refused-then-unfit-ne0.ensures
 
@@ -62,11 +63,17 @@ put_converted-requires c =
     let clear : (text_fault text).number ≡ 0 = ap (λ (f : Fault). f.number) (sym c.text_fault-wrong.ensures) ∙ c.if-wrong-ne0.false in
     -- whether its policy line is given, how long the converted text is, and what is at fault with that
     let given : c.policy_at-given.result ≡ policy_given text = c.policy_at-given.ensures ∙ given_there _ clear _ c.line_end-at.ensures in
-    let long : length text + c.added.result ≡ length (converted text) = ap (λ (n : ℕ). length text + n) c.added.ensures ∙ put_long _ clear _ given in
+    let long : length text + c.added.result ≡ length (converted text) = ap (λ (n : ℕ). length text + n) c.added.ensures
+    ∙ put_long _ clear _ given in
     let tested : c.size_fault-unfit.result ≡ convert_fault text (length room) = size_tested _ _ _ _ long clear c.size_fault-unfit.ensures in
     -- past the second nothing is
     let none : (convert_fault text (length room)).number ≡ 0 = ap (λ (f : Fault). f.number) (sym tested) ∙ c.if-unfit-ne0.false in
-    let accepted = clear in record { at_in_bounds = within _ accepted _ c.line_end-at.ensures; edf_in_bounds = omega (arith, put_long _ accepted _ given, (converts _ _ none).fits) }
+    let accepted = clear in
+    record {
+      at_in_bounds = within _ accepted _ c.line_end-at.ensures;
+      edf_in_bounds =
+          omega (arith, put_long _ accepted _ given, (converts _ _ none).fits);
+    }
 
 pub returns : goal.returns
 returns c =
@@ -76,7 +83,8 @@ returns c =
     let clear : (text_fault text).number ≡ 0 = ap (λ (f : Fault). f.number) (sym c.text_fault-wrong.ensures) ∙ c.if-wrong-ne0.false in
     -- whether its policy line is given, how long the converted text is, and what is at fault with that
     let given : c.policy_at-given.result ≡ policy_given text = c.policy_at-given.ensures ∙ given_there _ clear _ c.line_end-at.ensures in
-    let long : length text + c.added.result ≡ length (converted text) = ap (λ (n : ℕ). length text + n) c.added.ensures ∙ put_long _ clear _ given in
+    let long : length text + c.added.result ≡ length (converted text) = ap (λ (n : ℕ). length text + n) c.added.ensures
+    ∙ put_long _ clear _ given in
     let tested : c.size_fault-unfit.result ≡ convert_fault text (length room) = size_tested _ _ _ _ long clear c.size_fault-unfit.ensures in
     -- past the second nothing is
     let none : (convert_fault text (length room)).number ≡ 0 = ap (λ (f : Fault). f.number) (sym tested) ∙ c.if-unfit-ne0.false in

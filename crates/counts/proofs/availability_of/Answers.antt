@@ -8,5 +8,11 @@ use Rattle.counts.proofs.availability_of.Goals as goal
 
 pub returns : goal.returns
 unfolding availability
-returns c =
-    (ap (◌+◌ (c.args.slots / c.args.period * c.args.deadline)) c.smaller-part.ensures, omega (arith, avail_small c.args.slots c.args.period c.args.deadline c.requires.0 c.requires.1 c.requires.2, c.smaller-part.ensures))
+returns c = (
+  ap (◌+◌ (c.args.slots / c.args.period * c.args.deadline)) c.smaller-part.ensures,
+  omega (
+    arith,
+    avail_small c.args.slots c.args.period c.args.deadline c.requires.0 c.requires.1 c.requires.2,
+    c.smaller-part.ensures,
+  ),
+)

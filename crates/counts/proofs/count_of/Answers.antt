@@ -29,7 +29,8 @@ unfolding availabilities
 returns-then-slots-shared c =
     let table : List ℕ = c.args.table.now in
     -- the sum over all tasks
-    let summed : c.loop-i.sum ≡ availabilities table c.args.slots = let z : c.loop-i.i ≡ task_count table = omega (arith, c.task_count-tasks.ensures) in
+    let summed : c.loop-i.sum ≡ availabilities table c.args.slots = let z : c.loop-i.i ≡ task_count table =
+    omega (arith, c.task_count-tasks.ensures) in
     c.loop-i.invariant.2 ∙ ap (sum (λ i. availability (period table i) (deadline table i) c.args.slots) 0) z in
     count_low _ _ _ _ summed c.if-slots-shared.true
 
@@ -38,6 +39,7 @@ unfolding availabilities
 returns-else-slots-shared c =
     let table : List ℕ = c.args.table.now in
     -- the sum over all tasks
-    let summed : c.loop-i.sum ≡ availabilities table c.args.slots = let z : c.loop-i.i ≡ task_count table = omega (arith, c.task_count-tasks.ensures) in
+    let summed : c.loop-i.sum ≡ availabilities table c.args.slots = let z : c.loop-i.i ≡ task_count table =
+    omega (arith, c.task_count-tasks.ensures) in
     c.loop-i.invariant.2 ∙ ap (sum (λ i. availability (period table i) (deadline table i) c.args.slots) 0) z in
     count_high _ _ _ _ summed

@@ -15,7 +15,8 @@ returns-then-number-ne0 c =
 
 pub replay_run-requires : goal.replay_run-requires
 replay_run-requires c =
-    let w = replay_clear _ _ (clear _ _ c.replay_fault-f.ensures c.if-number-ne0.false) in record { accepted = w.0; record_width_in_bounds = w.1 }
+    let w = replay_clear _ _ (clear _ _ c.replay_fault-f.ensures c.if-number-ne0.false) in
+    record { accepted = w.0; record_width_in_bounds = w.1 }
 
 pub marked_in-met-requires : goal.marked_in-met-requires
 marked_in-met-requires c =

@@ -14,7 +14,11 @@ pub loop-i-preserved : goal.loop-i-preserved
 loop-i-preserved c =
     let v = c.loop-i.invariant in
     let h = c.loop-i-test.true in
-    elim c.if-set-i.branch [ then-set-i w ↦ rw w.number-is (doubling_yes _ _ _ _ h v w.if-set-i.true) | else-set-i w ↦ rw w.number-is (doubling_no _ _ _ _ h v w.if-set-i.false) ]
+    elim c.if-set-i.branch [
+      | then-set-i w ↦ rw w.number-is (doubling_yes _ _ _ _ h v w.if-set-i.true)
+      | else-set-i w ↦
+          rw w.number-is (doubling_no _ _ _ _ h v w.if-set-i.false)
+    ]
 
 pub returns : goal.returns
 unfolding set_number

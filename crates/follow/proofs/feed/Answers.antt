@@ -24,7 +24,8 @@ use Rattle.follow.proofs.Following.{Feeding}
 use Rattle.follow.proofs.Following.{feeding_none, feeding_line, feeding_more, feeding_all, feeding_over, feeding_some, goes_more}
 use Rattle.follow.proofs.Following.{newline_there, none_left}
 use Rattle.follow.proofs.feed.Goals as goal
-use Rattle.follow.proofs.feed.Goals.{else-must_open, then-must_open, then-has_slot+then-is_worked, then-has_slot+else-is_worked, else-has_slot}
+use Rattle.follow.proofs.feed.Goals.{else-must_open, then-must_open, then-has_slot+then-is_worked, then-has_slot+else-is_worked}
+use Rattle.follow.proofs.feed.Goals.{else-has_slot}
 
 pub loop-i-init : goal.loop-i-init
 loop-i-init c = λ f w. feeding_none _ c.args.piece.now _ f w

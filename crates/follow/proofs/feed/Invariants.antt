@@ -8,7 +8,8 @@ use Rattle.follow.proofs.feed.Given as goal
 
 abbrev pub invariant-loop-i : goal.invariant-loop-i
 invariant-loop-i l =
-    Feeding (case_of l.procs l.policy l.table l.end l.trace) l.piece (log_of l.initial.s.run l.initial.s.named l.initial.scan l.initial.lines l.initial.next l.initial.jobs l.initial.calm l.initial.number) l.i
+    Feeding (case_of l.procs l.policy l.table l.end l.trace) l.piece (log_of l.initial.s.run l.initial.s.named l.initial.scan
+    l.initial.lines l.initial.next l.initial.jobs l.initial.calm l.initial.number) l.i
     (log_of l.s.run l.s.named l.scan l.lines l.next l.jobs l.calm l.number)
 
 abbrev pub decreases-loop-i : goal.decreases-loop-i

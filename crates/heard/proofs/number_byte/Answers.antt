@@ -6,7 +6,8 @@ use Rattle.heard.proofs.number_byte.Goals as goal
 pub with_digit-longer-requires : goal.with_digit-longer-requires
 with_digit-longer-requires c =
     let s = c.args.s in
-    let d = fits_digit s.digits s.value c.args.b (sym c.fits.ensures ∙ c.if-fits.true) in record { value_bound = small_worth s.digits s.value c.requires.in_number.small d.1; le_b = d.0 }
+    let d = fits_digit s.digits s.value c.args.b (sym c.fits.ensures ∙ c.if-fits.true) in
+    record { value_bound = small_worth s.digits s.value c.requires.in_number.small d.1; le_b = d.0 }
 
 pub returns-then-fits : goal.returns-then-fits
 returns-then-fits c =

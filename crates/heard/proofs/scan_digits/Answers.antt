@@ -12,7 +12,8 @@ use Rattle.heard.proofs.scan_digits.Goals as goal
 pub with_digit-value-requires : goal.with_digit-value-requires
 with_digit-value-requires c =
     -- a digit stands at the place, and it fits
-    let digit : (c.loop-value.i < length c.args.piece.now) × (fits c.loop-value.digits c.loop-value.value (get_or c.args.piece.now c.loop-value.i 0) ≡ true) = let l = c.loop-value in
+    let digit : (c.loop-value.i < length c.args.piece.now)
+    × (fits c.loop-value.digits c.loop-value.value (get_or c.args.piece.now c.loop-value.i 0) ≡ true) = let l = c.loop-value in
     line_digit c.args.piece.now l.i l.digits l.value
     (sym c.digit_fits.ensures ∙ c.loop-value-test.true) in
     let l = c.loop-value in
@@ -21,7 +22,8 @@ with_digit-value-requires c =
 pub loop-value-preserved : goal.loop-value-preserved
 loop-value-preserved c =
     -- a digit stands at the place, and it fits
-    let digit : (c.loop-value.i < length c.args.piece.now) × (fits c.loop-value.digits c.loop-value.value (get_or c.args.piece.now c.loop-value.i 0) ≡ true) = let l = c.loop-value in
+    let digit : (c.loop-value.i < length c.args.piece.now)
+    × (fits c.loop-value.digits c.loop-value.value (get_or c.args.piece.now c.loop-value.i 0) ≡ true) = let l = c.loop-value in
     line_digit c.args.piece.now l.i l.digits l.value
     (sym c.digit_fits.ensures ∙ c.loop-value-test.true) in
     let s = c.args.s in

@@ -12,10 +12,12 @@ use Rattle.heard.proofs.scan_line.Goals as goal
 pub scan_number-scan-requires : goal.scan_number-scan-requires
 scan_number-scan-requires c =
     -- a byte of the line stands at the place
-    let byte : (c.loop-named.i < length c.args.piece.now) × (get_or c.args.piece.now c.loop-named.i 0 ≡ newline_byte → ⊥) = line_byte c.args.piece.now c.loop-named.i
+    let byte : (c.loop-named.i < length c.args.piece.now) × (get_or c.args.piece.now c.loop-named.i 0 ≡ newline_byte → ⊥) =
+    line_byte c.args.piece.now c.loop-named.i
     (sym c.in_line.ensures ∙ c.loop-named-test.true) in
     -- the line up to that byte, and it
-    let heard : Goes c.args.piece.now c.args.from (scan_as c.args.s c.args.named.now) (c.loop-named.i + 1) (scan_as c.scan_byte-scan.result c.scan_byte-scan.new.named) = let a = c.args in
+    let heard : Goes c.args.piece.now c.args.from (scan_as c.args.s c.args.named.now) (c.loop-named.i + 1) (scan_as c.scan_byte-scan.result
+    c.scan_byte-scan.new.named) = let a = c.args in
     let l = c.loop-named in
     let b = byte in
     rw c.scan_byte-scan.ensures.1
@@ -30,10 +32,12 @@ scan_number-scan-requires c =
 pub loop-named-preserved : goal.loop-named-preserved
 loop-named-preserved c =
     -- a byte of the line stands at the place
-    let byte : (c.loop-named.i < length c.args.piece.now) × (get_or c.args.piece.now c.loop-named.i 0 ≡ newline_byte → ⊥) = line_byte c.args.piece.now c.loop-named.i
+    let byte : (c.loop-named.i < length c.args.piece.now) × (get_or c.args.piece.now c.loop-named.i 0 ≡ newline_byte → ⊥) =
+    line_byte c.args.piece.now c.loop-named.i
     (sym c.in_line.ensures ∙ c.loop-named-test.true) in
     -- the line up to that byte, and it
-    let heard : Goes c.args.piece.now c.args.from (scan_as c.args.s c.args.named.now) (c.loop-named.i + 1) (scan_as c.scan_byte-scan.result c.scan_byte-scan.new.named) = let a = c.args in
+    let heard : Goes c.args.piece.now c.args.from (scan_as c.args.s c.args.named.now) (c.loop-named.i + 1) (scan_as c.scan_byte-scan.result
+    c.scan_byte-scan.new.named) = let a = c.args in
     let l = c.loop-named in
     let b = byte in
     rw c.scan_byte-scan.ensures.1

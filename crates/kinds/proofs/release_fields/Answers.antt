@@ -15,7 +15,8 @@ pub returns-in_default-number : goal.returns-in_default-number
 unfolding one_number two_numbers
 returns-in_default-number c =
     -- the first field is the time
-    let time_read : number_in (field_of c.args.s.now) ≡ Value c.in-Value.time = ap number_in (sym c.field-first.ensures) ∙ sym c.number.ensures
+    let time_read : number_in (field_of c.args.s.now) ≡ Value c.in-Value.time = ap number_in (sym c.field-first.ensures)
+    ∙ sym c.number.ensures
     ∙ c.in-Value.is in
     let after-field = c.after_field in
     rw (
@@ -27,7 +28,8 @@ pub returns : goal.returns
 unfolding one_number two_numbers
 returns c =
     -- the first field is the time
-    let time_read : number_in (field_of c.args.s.now) ≡ Value c.in-Value.time = ap number_in (sym c.field-first.ensures) ∙ sym c.number.ensures
+    let time_read : number_in (field_of c.args.s.now) ≡ Value c.in-Value.time = ap number_in (sym c.field-first.ensures)
+    ∙ sym c.number.ensures
     ∙ c.in-Value.is in
     let after-field = c.after_field in
     let number2 = c.number-2 in

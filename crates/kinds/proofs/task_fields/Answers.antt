@@ -34,7 +34,8 @@ returns-in_default-number-2 c =
     let period_read : number_in (field_of c.args.s.now) ≡ Value c.in-Value.period = let field = c.field-first in
     ap number_in (sym field.ensures) ∙ sym c.number.ensures ∙ c.in-Value.is in
     -- the first field of what follows its tab is C
-    let execution_read : number_in (field_of (after_field c.args.s.now)) ≡ Value c.in-Value-number.execution = let after-field = c.after_field-t in
+    let execution_read : number_in (field_of (after_field c.args.s.now)) ≡ Value c.in-Value-number.execution = let after-field =
+    c.after_field-t in
     let field2 = c.field-second in
     ap (λ (z : List ℕ). number_in (field_of z)) (sym after-field.ensures) ∙ ap number_in (sym field2.ensures)
     ∙ sym c.number-2.ensures ∙ c.in-Value-number.is in
@@ -53,7 +54,8 @@ returns c =
     let period_read : number_in (field_of c.args.s.now) ≡ Value c.in-Value.period = let field = c.field-first in
     ap number_in (sym field.ensures) ∙ sym c.number.ensures ∙ c.in-Value.is in
     -- the first field of what follows its tab is C
-    let execution_read : number_in (field_of (after_field c.args.s.now)) ≡ Value c.in-Value-number.execution = let after-field = c.after_field-t in
+    let execution_read : number_in (field_of (after_field c.args.s.now)) ≡ Value c.in-Value-number.execution = let after-field =
+    c.after_field-t in
     let field2 = c.field-second in
     ap (λ (z : List ℕ). number_in (field_of z)) (sym after-field.ensures) ∙ ap number_in (sym field2.ensures)
     ∙ sym c.number-2.ensures ∙ c.in-Value-number.is in

@@ -21,7 +21,8 @@ returns-then-at-text c =
 pub returns-then-fault-ne0 : goal.returns-then-fault-ne0
 returns-then-fault-ne0 c =
     -- what is at fault is what is at fault with the line at that place
-    let told : c.line_fault-fault.result ≡ line_fault case_order c.args.top.before (kind_of c.next_line-step.result.said) c.args.top.line = c.line_fault-fault.ensures in
+    let told : c.line_fault-fault.result ≡ line_fault case_order c.args.top.before (kind_of c.next_line-step.result.said) c.args.top.line =
+    c.line_fault-fault.ensures in
     let w = c.requires.in_head in
     record {
       fault = λ _.
@@ -36,7 +37,8 @@ returns-then-fault-ne0 c =
 pub returns : goal.returns
 returns c =
     -- what is at fault is what is at fault with the line at that place
-    let told : c.line_fault-fault.result ≡ line_fault case_order c.args.top.before (kind_of c.next_line-step.result.said) c.args.top.line = c.line_fault-fault.ensures in
+    let told : c.line_fault-fault.result ≡ line_fault case_order c.args.top.before (kind_of c.next_line-step.result.said) c.args.top.line =
+    c.line_fault-fault.ensures in
     let line = c.next_line-step.ensures in
     record {
       fault = λ h. absurd (h c.if-fault-ne0.false);

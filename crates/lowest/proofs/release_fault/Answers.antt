@@ -36,10 +36,12 @@ is_apart-requires c =
     -- the tests before the last, together
     let asked : c.both-2.result ≡ ((some && ltb time end) && ordered) = c.both-2.ensures ∙ ap (λ (b : Bool). b && ordered) c.both.ensures in
     -- where they hold the release names a task of the table, of which there are few
-    let bounds : (1 ≤ named_by) × (named_by ≤ task_count table) × (named_by ≤ max_tasks) = let w = near_named _ _ _ _ _ _ _ _ near (sym asked ∙ c.if-both.true) in
+    let bounds : (1 ≤ named_by) × (named_by ≤ task_count table) × (named_by ≤ max_tasks) = let w =
+    near_named _ _ _ _ _ _ _ _ near (sym asked ∙ c.if-both.true) in
     (w.0, w.1, omega (arith, w.1, c.requires.0.few)) in
     -- and what is kept of that task is the time of its last release
-    let kept : get_or c.args.last.now (name - 1) 0 ≡ last_before trace j named_by = ap (λ (n : ℕ). get_or c.args.last.now (n - 1) 0) near.name_read
+    let kept : get_or c.args.last.now (name - 1) 0 ≡ last_before trace j named_by =
+    ap (λ (n : ℕ). get_or c.args.last.now (n - 1) 0) near.name_read
     ∙ last_at _ _ _ named_by c.requires.3 bounds.0 bounds.2 in
     let T = (c.requires.0.good (named_by - 1) (omega (arith, bounds))).small in
     (rw kept (c.requires.4 _), rw (c.period_of.ensures, near.name_read) T)
@@ -67,13 +69,16 @@ returns-then-is_apart c =
     -- the tests before the last, together
     let asked : c.both-2.result ≡ ((some && ltb time end) && ordered) = c.both-2.ensures ∙ ap (λ (b : Bool). b && ordered) c.both.ensures in
     -- where they hold the release names a task of the table, of which there are few
-    let bounds : (1 ≤ named_by) × (named_by ≤ task_count table) × (named_by ≤ max_tasks) = let w = near_named _ _ _ _ _ _ _ _ near (sym asked ∙ c.if-both.true) in
+    let bounds : (1 ≤ named_by) × (named_by ≤ task_count table) × (named_by ≤ max_tasks) = let w =
+    near_named _ _ _ _ _ _ _ _ near (sym asked ∙ c.if-both.true) in
     (w.0, w.1, omega (arith, w.1, c.requires.0.few)) in
     -- and what is kept of that task is the time of its last release
-    let kept : get_or c.args.last.now (name - 1) 0 ≡ last_before trace j named_by = ap (λ (n : ℕ). get_or c.args.last.now (n - 1) 0) near.name_read
+    let kept : get_or c.args.last.now (name - 1) 0 ≡ last_before trace j named_by =
+    ap (λ (n : ℕ). get_or c.args.last.now (n - 1) 0) near.name_read
     ∙ last_at _ _ _ named_by c.requires.3 bounds.0 bounds.2 in
     -- 10, as it is found
-    let since : (far : Bool) (f : Fault) → c.is_apart.result ≡ far → f ≡ unless far 10 (j + 1) → f ≡ release_fault table end trace j = λ far f q x. let T = c.period_of.ensures ∙ ap (λ (n : ℕ). period table (n - 1)) near.name_read in
+    let since : (far : Bool) (f : Fault) → c.is_apart.result ≡ far → f ≡ unless far 10 (j + 1) → f ≡ release_fault table end trace j =
+    λ far f q x. let T = c.period_of.ensures ∙ ap (λ (n : ℕ). period table (n - 1)) near.name_read in
     since_found _ _ _ _ _ _ _ _ near (sym asked ∙ c.if-both.true) _ _ far f kept T (sym q ∙ c.is_apart.ensures) x in
     since true _ c.if-is_apart.true c.fault.ensures
 
@@ -100,13 +105,16 @@ returns-then-both c =
     -- the tests before the last, together
     let asked : c.both-2.result ≡ ((some && ltb time end) && ordered) = c.both-2.ensures ∙ ap (λ (b : Bool). b && ordered) c.both.ensures in
     -- where they hold the release names a task of the table, of which there are few
-    let bounds : (1 ≤ named_by) × (named_by ≤ task_count table) × (named_by ≤ max_tasks) = let w = near_named _ _ _ _ _ _ _ _ near (sym asked ∙ c.if-both.true) in
+    let bounds : (1 ≤ named_by) × (named_by ≤ task_count table) × (named_by ≤ max_tasks) = let w =
+    near_named _ _ _ _ _ _ _ _ near (sym asked ∙ c.if-both.true) in
     (w.0, w.1, omega (arith, w.1, c.requires.0.few)) in
     -- and what is kept of that task is the time of its last release
-    let kept : get_or c.args.last.now (name - 1) 0 ≡ last_before trace j named_by = ap (λ (n : ℕ). get_or c.args.last.now (n - 1) 0) near.name_read
+    let kept : get_or c.args.last.now (name - 1) 0 ≡ last_before trace j named_by =
+    ap (λ (n : ℕ). get_or c.args.last.now (n - 1) 0) near.name_read
     ∙ last_at _ _ _ named_by c.requires.3 bounds.0 bounds.2 in
     -- 10, as it is found
-    let since : (far : Bool) (f : Fault) → c.is_apart.result ≡ far → f ≡ unless far 10 (j + 1) → f ≡ release_fault table end trace j = λ far f q x. let T = c.period_of.ensures ∙ ap (λ (n : ℕ). period table (n - 1)) near.name_read in
+    let since : (far : Bool) (f : Fault) → c.is_apart.result ≡ far → f ≡ unless far 10 (j + 1) → f ≡ release_fault table end trace j =
+    λ far f q x. let T = c.period_of.ensures ∙ ap (λ (n : ℕ). period table (n - 1)) near.name_read in
     since_found _ _ _ _ _ _ _ _ near (sym asked ∙ c.if-both.true) _ _ far f kept T (sym q ∙ c.is_apart.ensures) x in
     since false _ c.if-is_apart.false c.fault-then-both.ensures
 

@@ -22,21 +22,24 @@ returns-then-refused-ne0 c =
 pub overflow_sub-i : goal.overflow_sub-i
 overflow_sub-i c =
     -- a release with no fault names one of few tasks at a time that is not too late
-    let stands : (1 ≤ name_of c.args.trace.now c.loop-j.j) × (name_of c.args.trace.now c.loop-j.j ≤ max_tasks) × (time_of c.args.trace.now c.loop-j.j < max_end) = let p = passed _ _ _ _ _ c.release_fault-found.ensures c.if-refused-ne0.false in
+    let stands : (1 ≤ name_of c.args.trace.now c.loop-j.j) × (name_of c.args.trace.now c.loop-j.j ≤ max_tasks)
+    × (time_of c.args.trace.now c.loop-j.j < max_end) = let p = passed _ _ _ _ _ c.release_fault-found.ensures c.if-refused-ne0.false in
     (p.some, omega (arith, p.known, c.requires.0.few), omega (arith, p.soon, c.requires.2)) in
     omega (arith, stands, c.name_of.ensures)
 
 pub overflow_add-last : goal.overflow_add-last
 overflow_add-last c =
     -- a release with no fault names one of few tasks at a time that is not too late
-    let stands : (1 ≤ name_of c.args.trace.now c.loop-j.j) × (name_of c.args.trace.now c.loop-j.j ≤ max_tasks) × (time_of c.args.trace.now c.loop-j.j < max_end) = let p = passed _ _ _ _ _ c.release_fault-found.ensures c.if-refused-ne0.false in
+    let stands : (1 ≤ name_of c.args.trace.now c.loop-j.j) × (name_of c.args.trace.now c.loop-j.j ≤ max_tasks)
+    × (time_of c.args.trace.now c.loop-j.j < max_end) = let p = passed _ _ _ _ _ c.release_fault-found.ensures c.if-refused-ne0.false in
     (p.some, omega (arith, p.known, c.requires.0.few), omega (arith, p.soon, c.requires.2)) in
     omega (arith, stands, c.time_of-time.ensures)
 
 pub bounds-last-i : goal.bounds-last-i
 bounds-last-i c =
     -- a release with no fault names one of few tasks at a time that is not too late
-    let stands : (1 ≤ name_of c.args.trace.now c.loop-j.j) × (name_of c.args.trace.now c.loop-j.j ≤ max_tasks) × (time_of c.args.trace.now c.loop-j.j < max_end) = let p = passed _ _ _ _ _ c.release_fault-found.ensures c.if-refused-ne0.false in
+    let stands : (1 ≤ name_of c.args.trace.now c.loop-j.j) × (name_of c.args.trace.now c.loop-j.j ≤ max_tasks)
+    × (time_of c.args.trace.now c.loop-j.j < max_end) = let p = passed _ _ _ _ _ c.release_fault-found.ensures c.if-refused-ne0.false in
     (p.some, omega (arith, p.known, c.requires.0.few), omega (arith, p.soon, c.requires.2)) in
     omega (arith, stands, c.name_of.ensures)
 

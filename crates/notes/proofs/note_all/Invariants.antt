@@ -8,7 +8,8 @@ use Rattle.notes.proofs.note_all.Given as goal
 
 abbrev pub invariant-loop-i : goal.invariant-loop-i
 invariant-loop-i l =
-    (l.i ≤ max_tasks) × (length l.out ≡ length l.initial.out) × (l.out ≡ note_to l.clock l.place l.finished l.demoted l.missed l.i l.initial.out)
+    (l.i ≤ max_tasks) × (length l.out ≡ length l.initial.out)
+    × (l.out ≡ note_to l.clock l.place l.finished l.demoted l.missed l.i l.initial.out)
 
 abbrev pub decreases-loop-i : goal.decreases-loop-i
 decreases-loop-i l = max_tasks - l.i

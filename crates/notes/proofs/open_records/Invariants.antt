@@ -11,7 +11,8 @@ use Rattle.notes.proofs.open_records.Given as goal
 
 abbrev pub invariant-loop-j : goal.invariant-loop-j
 invariant-loop-j l =
-    (l.j ≤ l.len) × (length l.out ≡ length l.initial.out) × (l.out ≡ numbers (tab (λ j. open_record) 0 l.j) ++ drop (l.j * record_width) l.initial.out)
+    (l.j ≤ l.len) × (length l.out ≡ length l.initial.out)
+    × (l.out ≡ numbers (tab (λ j. open_record) 0 l.j) ++ drop (l.j * record_width) l.initial.out)
 
 abbrev pub decreases-loop-j : goal.decreases-loop-j
 decreases-loop-j l = l.len - l.j

@@ -17,7 +17,8 @@ take_releases-next-requires c =
 pub step-run-requires : goal.step-run-requires
 step-run-requires c =
     -- there is a slot at the clock, and its line has room
-    let another : (c.loop-jobs.clock < c.args.end) × (c.loop-jobs.at + line_room ≤ length c.loop-jobs.out) = c.fits_another.ensures.is_so c.loop-jobs-test.true in
+    let another : (c.loop-jobs.clock < c.args.end) × (c.loop-jobs.at + line_room ≤ length c.loop-jobs.out) =
+    c.fits_another.ensures.is_so c.loop-jobs-test.true in
     let q = c.requires in
     let released = c.take_releases-next.ensures in
     needed _ (legal _ q.accepted) _ another.0 _ released.2 _ q.counts
@@ -25,7 +26,8 @@ step-run-requires c =
 pub loop-jobs-preserved : goal.loop-jobs-preserved
 loop-jobs-preserved c =
     -- there is a slot at the clock, and its line has room
-    let another : (c.loop-jobs.clock < c.args.end) × (c.loop-jobs.at + line_room ≤ length c.loop-jobs.out) = c.fits_another.ensures.is_so c.loop-jobs-test.true in
+    let another : (c.loop-jobs.clock < c.args.end) × (c.loop-jobs.at + line_room ≤ length c.loop-jobs.out) =
+    c.fits_another.ensures.is_so c.loop-jobs-test.true in
     let v = c.loop-jobs.invariant in
     let released = c.take_releases-next.ensures in
     writing_more _ _ _ _ _ _ _ _ v another.0 another.1 _ released.2 _ _ _ _ _ _ _ c.step-run.ensures _ released.1 _ _

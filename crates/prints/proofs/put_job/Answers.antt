@@ -32,7 +32,8 @@ put_outcome-line_end-requires c =
     -- how far the line has come, and that the room is what it was
     let worded : (c.put_word-at.result ≤ length job_word) × (job_room ≤ length c.put_word-at.new.out) = let put = c.put_word-at in
     omega (arith, put.ensures.behind, put.auto.out) in
-    let numbered : (c.put_numbers-verdict_at.result + outcome_room + 1 ≤ job_room) × (job_room ≤ length c.put_numbers-verdict_at.new.out) = let a = c.args in
+    let numbered : (c.put_numbers-verdict_at.result + outcome_room + 1 ≤ job_room) × (job_room ≤ length c.put_numbers-verdict_at.new.out) =
+    let a = c.args in
     let put = c.put_numbers-verdict_at in
     omega (
       arith,
@@ -49,7 +50,8 @@ bounds-out-line_end c =
     -- how far the line has come, and that the room is what it was
     let worded : (c.put_word-at.result ≤ length job_word) × (job_room ≤ length c.put_word-at.new.out) = let put = c.put_word-at in
     omega (arith, put.ensures.behind, put.auto.out) in
-    let numbered : (c.put_numbers-verdict_at.result + outcome_room + 1 ≤ job_room) × (job_room ≤ length c.put_numbers-verdict_at.new.out) = let a = c.args in
+    let numbered : (c.put_numbers-verdict_at.result + outcome_room + 1 ≤ job_room) × (job_room ≤ length c.put_numbers-verdict_at.new.out) =
+    let a = c.args in
     let put = c.put_numbers-verdict_at in
     omega (
       arith,
@@ -75,7 +77,8 @@ overflow_add-result c =
     -- how far the line has come, and that the room is what it was
     let worded : (c.put_word-at.result ≤ length job_word) × (job_room ≤ length c.put_word-at.new.out) = let put = c.put_word-at in
     omega (arith, put.ensures.behind, put.auto.out) in
-    let numbered : (c.put_numbers-verdict_at.result + outcome_room + 1 ≤ job_room) × (job_room ≤ length c.put_numbers-verdict_at.new.out) = let a = c.args in
+    let numbered : (c.put_numbers-verdict_at.result + outcome_room + 1 ≤ job_room) × (job_room ≤ length c.put_numbers-verdict_at.new.out) =
+    let a = c.args in
     let put = c.put_numbers-verdict_at in
     omega (
       arith,
@@ -101,7 +104,8 @@ returns c =
     -- how far the line has come, and that the room is what it was
     let worded : (c.put_word-at.result ≤ length job_word) × (job_room ≤ length c.put_word-at.new.out) = let put = c.put_word-at in
     omega (arith, put.ensures.behind, put.auto.out) in
-    let numbered : (c.put_numbers-verdict_at.result + outcome_room + 1 ≤ job_room) × (job_room ≤ length c.put_numbers-verdict_at.new.out) = let a = c.args in
+    let numbered : (c.put_numbers-verdict_at.result + outcome_room + 1 ≤ job_room) × (job_room ≤ length c.put_numbers-verdict_at.new.out) =
+    let a = c.args in
     let put = c.put_numbers-verdict_at in
     omega (
       arith,

@@ -11,14 +11,16 @@ use Rattle.prints.proofs.put_outcome.Goals as goal
 pub put_finish-demotion_at-requires : goal.put_finish-demotion_at-requires
 put_finish-demotion_at-requires c =
     -- how far the fields have come, and that the room is what it was
-    let judged : (c.put_verdict-finish_at.result ≤ c.args.at + verdict_room) × (c.args.at + outcome_room ≤ length c.put_verdict-finish_at.new.out) = let put = c.put_verdict-finish_at in
+    let judged : (c.put_verdict-finish_at.result ≤ c.args.at + verdict_room)
+    × (c.args.at + outcome_room ≤ length c.put_verdict-finish_at.new.out) = let put = c.put_verdict-finish_at in
     omega (arith, put.ensures.behind, put.auto.out, verdict_room_lem c.args.verdict) in
     omega (arith, judged)
 
 pub put_demotion-requires : goal.put_demotion-requires
 put_demotion-requires c =
     -- how far the fields have come, and that the room is what it was
-    let judged : (c.put_verdict-finish_at.result ≤ c.args.at + verdict_room) × (c.args.at + outcome_room ≤ length c.put_verdict-finish_at.new.out) = let put = c.put_verdict-finish_at in
+    let judged : (c.put_verdict-finish_at.result ≤ c.args.at + verdict_room)
+    × (c.args.at + outcome_room ≤ length c.put_verdict-finish_at.new.out) = let put = c.put_verdict-finish_at in
     omega (arith, put.ensures.behind, put.auto.out, verdict_room_lem c.args.verdict) in
     let put = c.put_finish-demotion_at in
     omega (

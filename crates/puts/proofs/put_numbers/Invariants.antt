@@ -8,7 +8,8 @@ use Rattle.puts.proofs.put_numbers.Given as goal
 
 abbrev pub invariant-loop-i : goal.invariant-loop-i
 invariant-loop-i l =
-    (l.i ≤ length l.vs) × (length l.out ≡ length l.initial.out) × Laid l.at (number_fields l.between (take l.i l.vs)) l.initial.out l.out l.end
+    (l.i ≤ length l.vs) × (length l.out ≡ length l.initial.out)
+    × Laid l.at (number_fields l.between (take l.i l.vs)) l.initial.out l.out l.end
 
 abbrev pub decreases-loop-i : goal.decreases-loop-i
 decreases-loop-i l = length l.vs - l.i

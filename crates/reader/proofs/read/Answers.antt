@@ -17,7 +17,8 @@ returns-then-no_room-ne0 c =
 pub returns-then-wrong-ne0 : goal.returns-then-wrong-ne0
 returns-then-wrong-ne0 c =
     -- nothing is at fault with the rooms
-    let enough : (rooms_fault (length c.args.tasks.now) (length c.args.releases.now)).number ≡ 0 = ap (λ (f : Fault). f.number) (sym c.rooms_fault-no_room.ensures) ∙ c.if-no_room-ne0.false in
+    let enough : (rooms_fault (length c.args.tasks.now) (length c.args.releases.now)).number ≡ 0 =
+    ap (λ (f : Fault). f.number) (sym c.rooms_fault-no_room.ensures) ∙ c.if-no_room-ne0.false in
     let a = c.args in
     refuses a.text.now a.tasks.now a.releases.now _
     (at_text _ _ _ _ enough c.read_case-found.ensures.fault) _ c.if-wrong-ne0.true
@@ -26,7 +27,8 @@ returns-then-wrong-ne0 c =
 pub put_case-requires : goal.put_case-requires
 put_case-requires c =
     -- nothing is at fault with the rooms
-    let enough : (rooms_fault (length c.args.tasks.now) (length c.args.releases.now)).number ≡ 0 = ap (λ (f : Fault). f.number) (sym c.rooms_fault-no_room.ensures) ∙ c.if-no_room-ne0.false in
+    let enough : (rooms_fault (length c.args.tasks.now) (length c.args.releases.now)).number ≡ 0 =
+    ap (λ (f : Fault). f.number) (sym c.rooms_fault-no_room.ensures) ∙ c.if-no_room-ne0.false in
     let a = c.args in
     let fit = both_fit a.text.now a.tasks.now a.releases.now _ _ _ enough c.read_case-found.ensures c.if-wrong-ne0.false in
     record { table_in_bounds = fit.0; trace_in_bounds = fit.1 }
@@ -34,7 +36,8 @@ put_case-requires c =
 pub returns : goal.returns
 returns c =
     -- nothing is at fault with the rooms
-    let enough : (rooms_fault (length c.args.tasks.now) (length c.args.releases.now)).number ≡ 0 = ap (λ (f : Fault). f.number) (sym c.rooms_fault-no_room.ensures) ∙ c.if-no_room-ne0.false in
+    let enough : (rooms_fault (length c.args.tasks.now) (length c.args.releases.now)).number ≡ 0 =
+    ap (λ (f : Fault). f.number) (sym c.rooms_fault-no_room.ensures) ∙ c.if-no_room-ne0.false in
     let a = c.args in
     all_read a.text.now a.tasks.now a.releases.now _ _ _ enough c.read_case-found.ensures
     c.if-wrong-ne0.false _ _ _ c.put_case.ensures

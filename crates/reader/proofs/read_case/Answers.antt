@@ -14,11 +14,13 @@ returns-then-fault-ne0 c =
 pub returns-then-bad_line-ne0 : goal.returns-then-bad_line-ne0
 unfolding length_fault
 returns-then-bad_line-ne0 c =
-    let short : (length_fault c.args.text.now).number ≡ 0 = ap (λ (f : Fault). f.number) (sym c.length_fault-fault.ensures) ∙ c.if-fault-ne0.false in
+    let short : (length_fault c.args.text.now).number ≡ 0 = ap (λ (f : Fault). f.number) (sym c.length_fault-fault.ensures)
+    ∙ c.if-fault-ne0.false in
     reads_line _ _ _ _ short c.gather-found.ensures c.if-bad_line-ne0.true
 
 pub returns : goal.returns
 unfolding length_fault
 returns c =
-    let short : (length_fault c.args.text.now).number ≡ 0 = ap (λ (f : Fault). f.number) (sym c.length_fault-fault.ensures) ∙ c.if-fault-ne0.false in
+    let short : (length_fault c.args.text.now).number ≡ 0 = ap (λ (f : Fault). f.number) (sym c.length_fault-fault.ensures)
+    ∙ c.if-fault-ne0.false in
     reads_case _ _ _ _ short c.gather-found.ensures _ c.if-bad_line-ne0.false c.case_fault-fault.ensures

@@ -26,12 +26,19 @@ put_jobs-last-requires c =
     let replay = c.replay-replayed in
     let ok = c.requires.accepted in
     let run = c.put_run-at in
-    let fit = fits _ ok _ _ replay.ensures.left (replay_fits _ ok) in record { job_room_in_bounds = omega (arith, run.ensures.short, run.auto.out, (legal _ ok).releases_few, c.requires.print_room_in_bounds); by_index = stands _ ok _ fit }
+    let fit = fits _ ok _ _ replay.ensures.left (replay_fits _ ok) in
+    record {
+      job_room_in_bounds =
+          omega (arith, run.ensures.short, run.auto.out, (legal _ ok).releases_few, c.requires.print_room_in_bounds);
+      by_index =
+          stands _ ok _ fit;
+    }
 
 pub slice_bounds-put_total-count : goal.slice_bounds-put_total-count
 slice_bounds-put_total-count c =
     -- the total line has room behind the job lines
-    let room : (c.put_jobs-last.result + line_room ≤ length c.put_jobs-last.new.out) × (c.put_jobs-last.result ≤ line_room + max_releases * job_room) = let run = c.put_run-at in
+    let room : (c.put_jobs-last.result + line_room ≤ length c.put_jobs-last.new.out)
+    × (c.put_jobs-last.result ≤ line_room + max_releases * job_room) = let run = c.put_run-at in
     omega (
       arith,
       c.put_jobs-last.ensures.short,
@@ -46,7 +53,8 @@ slice_bounds-put_total-count c =
 pub slice_bounds-put_total-start : goal.slice_bounds-put_total-start
 slice_bounds-put_total-start c =
     -- the total line has room behind the job lines
-    let room : (c.put_jobs-last.result + line_room ≤ length c.put_jobs-last.new.out) × (c.put_jobs-last.result ≤ line_room + max_releases * job_room) = let run = c.put_run-at in
+    let room : (c.put_jobs-last.result + line_room ≤ length c.put_jobs-last.new.out)
+    × (c.put_jobs-last.result ≤ line_room + max_releases * job_room) = let run = c.put_run-at in
     omega (
       arith,
       c.put_jobs-last.ensures.short,
@@ -61,7 +69,8 @@ slice_bounds-put_total-start c =
 pub put_total-length-requires : goal.put_total-length-requires
 put_total-length-requires c =
     -- the total line has room behind the job lines
-    let room : (c.put_jobs-last.result + line_room ≤ length c.put_jobs-last.new.out) × (c.put_jobs-last.result ≤ line_room + max_releases * job_room) = let run = c.put_run-at in
+    let room : (c.put_jobs-last.result + line_room ≤ length c.put_jobs-last.new.out)
+    × (c.put_jobs-last.result ≤ line_room + max_releases * job_room) = let run = c.put_run-at in
     omega (
       arith,
       c.put_jobs-last.ensures.short,
@@ -77,7 +86,8 @@ put_total-length-requires c =
 pub overflow_add-result : goal.overflow_add-result
 overflow_add-result c =
     -- the total line has room behind the job lines
-    let room : (c.put_jobs-last.result + line_room ≤ length c.put_jobs-last.new.out) × (c.put_jobs-last.result ≤ line_room + max_releases * job_room) = let run = c.put_run-at in
+    let room : (c.put_jobs-last.result + line_room ≤ length c.put_jobs-last.new.out)
+    × (c.put_jobs-last.result ≤ line_room + max_releases * job_room) = let run = c.put_run-at in
     omega (
       arith,
       c.put_jobs-last.ensures.short,
@@ -97,7 +107,8 @@ returns-in-Refused c =
 pub returns-in-Judged : goal.returns-in-Judged
 returns-in-Judged c =
     -- the total line has room behind the job lines
-    let room : (c.put_jobs-last.result + line_room ≤ length c.put_jobs-last.new.out) × (c.put_jobs-last.result ≤ line_room + max_releases * job_room) = let run = c.put_run-at in
+    let room : (c.put_jobs-last.result + line_room ≤ length c.put_jobs-last.new.out)
+    × (c.put_jobs-last.result ≤ line_room + max_releases * job_room) = let run = c.put_run-at in
     omega (
       arith,
       c.put_jobs-last.ensures.short,

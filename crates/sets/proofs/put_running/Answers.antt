@@ -22,7 +22,8 @@ pub returns : goal.returns
 unfolding running_line word_of
 returns c =
     -- the numbers of the line
-    let numbers : take (c.put_members-n.result - 0) c.put_members-n.new.out ≡ c.args.slot ∷ members_of c.args.set max_tasks = slot_first _ _ _ _ _ (members_few c.args.set max_tasks) c.put_members-n.ensures in
+    let numbers : take (c.put_members-n.result - 0) c.put_members-n.new.out ≡ c.args.slot ∷ members_of c.args.set max_tasks =
+    slot_first _ _ _ _ _ (members_few c.args.set max_tasks) c.put_members-n.ensures in
     let put = c.put_line in
     line_printed space_byte 10 (c.args.slot ∷ members_of c.args.set max_tasks)
     (omega (arith, members_few c.args.set max_tasks))
@@ -31,7 +32,8 @@ returns c =
 pub put_line-requires : goal.put_line-requires
 put_line-requires c =
     -- the numbers of the line
-    let numbers : take (c.put_members-n.result - 0) c.put_members-n.new.out ≡ c.args.slot ∷ members_of c.args.set max_tasks = slot_first _ _ _ _ _ (members_few c.args.set max_tasks) c.put_members-n.ensures in
+    let numbers : take (c.put_members-n.result - 0) c.put_members-n.new.out ≡ c.args.slot ∷ members_of c.args.set max_tasks =
+    slot_first _ _ _ _ _ (members_few c.args.set max_tasks) c.put_members-n.ensures in
     rw numbers
     (line_within space_byte 10 (c.args.slot ∷ members_of c.args.set max_tasks)
     (omega (arith, members_few c.args.set max_tasks))

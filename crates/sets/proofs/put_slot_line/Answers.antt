@@ -31,7 +31,8 @@ returns c =
     let tasks : List ℕ = tasks_in (λ i. get_or c.args.ran.now i false) in
     let few : length tasks ≤ max_tasks = tasks_few (λ i. get_or c.args.ran.now i false) 0 max_tasks in
     -- the numbers of the line
-    let numbers : take (c.put_tasks-n.result - 0) c.put_tasks-n.new.out ≡ c.args.time ∷ tasks = slot_first _ _ _ _ _ few c.put_tasks-n.ensures in
+    let numbers : take (c.put_tasks-n.result - 0) c.put_tasks-n.new.out ≡ c.args.time ∷ tasks =
+    slot_first _ _ _ _ _ few c.put_tasks-n.ensures in
     let put = c.put_line in
     line_printed tab_byte 11 (c.args.time ∷ tasks) (omega (arith, few))
     (rw numbers at put.ensures)
@@ -43,6 +44,7 @@ put_line-requires c =
     let tasks : List ℕ = tasks_in (λ i. get_or c.args.ran.now i false) in
     let few : length tasks ≤ max_tasks = tasks_few (λ i. get_or c.args.ran.now i false) 0 max_tasks in
     -- the numbers of the line
-    let numbers : take (c.put_tasks-n.result - 0) c.put_tasks-n.new.out ≡ c.args.time ∷ tasks = slot_first _ _ _ _ _ few c.put_tasks-n.ensures in
+    let numbers : take (c.put_tasks-n.result - 0) c.put_tasks-n.new.out ≡ c.args.time ∷ tasks =
+    slot_first _ _ _ _ _ few c.put_tasks-n.ensures in
     rw numbers
     (line_within tab_byte 11 (c.args.time ∷ tasks) (omega (arith, few)) c.requires)

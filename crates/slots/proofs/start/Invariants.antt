@@ -10,7 +10,8 @@ use Rattle.slots.proofs.start.Given as goal
 
 abbrev pub invariant-loop-i : goal.invariant-loop-i
 invariant-loop-i l =
-    Filling max_tasks (tab idle_task 0 max_tasks) l.initial.s.tasks l.s.tasks l.i × (l.number ≡ suc l.i) × Counting l.procs l.table l.counts l.i
+    Filling max_tasks (tab idle_task 0 max_tasks) l.initial.s.tasks l.s.tasks l.i × (l.number ≡ suc l.i)
+    × Counting l.procs l.table l.counts l.i
 
 abbrev pub decreases-loop-i : goal.decreases-loop-i
 decreases-loop-i l = max_tasks - l.i

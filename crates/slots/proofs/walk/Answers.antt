@@ -60,7 +60,8 @@ note_slot-requires c =
     let chosen = c.choose-bound.ensures in
     let k = slot_of _ _ _ r.2 _ v.walks.at_run _ _ _ _ _ c.settle-run.ensures _ chosen _ _ _ c.work-run.ensures in
     let h = handed _ _ _ r.2 _ v.walks.at_run _ _ _ _ _ _ _ k _ _ r.1 in
-    let noted = noted_here _ _ _ _ _ _ _ _ _ _ _ v c.if-noting.true in record { roomy = roomy _ g _ _ noted _ r.0 _ _ _ _ h; clock_lt_max_end = omega (arith, early, g.end_small) }
+    let noted = noted_here _ _ _ _ _ _ _ _ _ _ _ v c.if-noting.true in
+    record { roomy = roomy _ g _ _ noted _ r.0 _ _ _ _ h; clock_lt_max_end = omega (arith, early, g.end_small) }
 
 pub loop-clock-preserved : goal.loop-clock-preserved
 unfolding tab
@@ -69,13 +70,27 @@ loop-clock-preserved c =
     let v = c.loop-clock.invariant in
     let k = c.loop-clock-test.true in
     elim c.if-rests.branch [
-      | then-rests w ↦ rw (w.out-is, w.run-is, w.place-is, w.next-is, w.jobs-is, w.ran-is) (going_on _ _ _ _ _ _ _ _ _ _ _ v k g (c.rests.ensures w.if-rests.true))
+      | then-rests w ↦ rw (
+        w.out-is,
+        w.run-is,
+        w.place-is,
+        w.next-is,
+        w.jobs-is,
+        w.ran-is,
+      ) (going_on _ _ _ _ _ _ _ _ _ _ _ v k g (c.rests.ensures w.if-rests.true))
       | else-rests+then-noting w ↦
           let a = w.pass_releases-next.ensures in
           let s = slot_of _ _ _ a.2 _ v.walks.at_run _ _ _ _ _ w.settle-run.ensures _ w.choose-bound.ensures _ _ _ w.work-run.ensures in
           let h = handed _ _ _ a.2 _ v.walks.at_run _ _ _ _ _ _ _ s _ _ a.1 in
           let t = turned _ _ _ a.2 _ v.walks.at_run _ _ _ _ _ _ _ s _ _ a.0 a.1 in
-          rw (w.out-is, w.run-is, w.place-is, w.next-is, w.jobs-is, w.ran-is) (going_more _ _ _ _ _ _ _ _ _ _ _ v k _ _ _ _ _ _ t w.note_slot.auto.out
+          rw (
+            w.out-is,
+            w.run-is,
+            w.place-is,
+            w.next-is,
+            w.jobs-is,
+            w.ran-is,
+          ) (going_more _ _ _ _ _ _ _ _ _ _ _ v k _ _ _ _ _ _ t w.note_slot.auto.out
           (λ z. room_next _ g _ _ (noted_here _ _ _ _ _ _ _ _ _ _ _ v z) _ a.0 _ _ _ _ h _ w.note_slot.ensures))
       | else-rests+else-noting w ↦
           let a = w.pass_releases-next.ensures in

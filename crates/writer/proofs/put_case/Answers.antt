@@ -14,7 +14,8 @@ use Rattle.writer.proofs.put_case.Goals as goal
 pub put_head-tasks-requires : goal.put_head-tasks-requires
 put_head-tasks-requires c =
     -- the three parts have room
-    let parts : length (head_text c.args.procs c.args.policy) + length (rows_text 3 task_width c.args.table.now (task_count c.args.table.now)) + length (tail_text c.args.end c.args.trace.now) ≤ length c.args.out.now = let a = c.args in
+    let parts : length (head_text c.args.procs c.args.policy) + length (rows_text 3 task_width c.args.table.now (task_count
+    c.args.table.now)) + length (tail_text c.args.end c.args.trace.now) ≤ length c.args.out.now = let a = c.args in
     let tasks = rows_text 3 task_width a.table.now (task_count a.table.now) in
     let tail = tail_text a.end a.trace.now in
     omega (
@@ -28,7 +29,8 @@ put_head-tasks-requires c =
 pub put_rows-tail-requires : goal.put_rows-tail-requires
 put_rows-tail-requires c =
     -- the three parts have room
-    let parts : length (head_text c.args.procs c.args.policy) + length (rows_text 3 task_width c.args.table.now (task_count c.args.table.now)) + length (tail_text c.args.end c.args.trace.now) ≤ length c.args.out.now = let a = c.args in
+    let parts : length (head_text c.args.procs c.args.policy) + length (rows_text 3 task_width c.args.table.now (task_count
+    c.args.table.now)) + length (tail_text c.args.end c.args.trace.now) ≤ length c.args.out.now = let a = c.args in
     let tasks = rows_text 3 task_width a.table.now (task_count a.table.now) in
     let tail = tail_text a.end a.trace.now in
     omega (
@@ -50,7 +52,8 @@ put_rows-tail-requires c =
 pub put_tail-requires : goal.put_tail-requires
 put_tail-requires c =
     -- the three parts have room
-    let parts : length (head_text c.args.procs c.args.policy) + length (rows_text 3 task_width c.args.table.now (task_count c.args.table.now)) + length (tail_text c.args.end c.args.trace.now) ≤ length c.args.out.now = let a = c.args in
+    let parts : length (head_text c.args.procs c.args.policy) + length (rows_text 3 task_width c.args.table.now (task_count
+    c.args.table.now)) + length (tail_text c.args.end c.args.trace.now) ≤ length c.args.out.now = let a = c.args in
     let tasks = rows_text 3 task_width a.table.now (task_count a.table.now) in
     let tail = tail_text a.end a.trace.now in
     omega (

@@ -13,14 +13,16 @@ pub put_line-second-requires : goal.put_line-second-requires
 unfolding head_text procs_text word_of
 put_line-second-requires c =
     -- both lines have room
-    let parts : length (number_line 9 1 (c.args.procs ∷ [])) + length (policy_text c.args.policy) ≤ length c.args.out.now = omega (arith, length-append (procs_text c.args.procs) (policy_text c.args.policy)) in
+    let parts : length (number_line 9 1 (c.args.procs ∷ [])) + length (policy_text c.args.policy) ≤ length c.args.out.now =
+    omega (arith, length-append (procs_text c.args.procs) (policy_text c.args.policy)) in
     omega (arith, parts)
 
 pub slice_bounds-put_policy_line-count : goal.slice_bounds-put_policy_line-count
 unfolding head_text procs_text word_of
 slice_bounds-put_policy_line-count c =
     -- both lines have room
-    let parts : length (number_line 9 1 (c.args.procs ∷ [])) + length (policy_text c.args.policy) ≤ length c.args.out.now = omega (arith, length-append (procs_text c.args.procs) (policy_text c.args.policy)) in
+    let parts : length (number_line 9 1 (c.args.procs ∷ [])) + length (policy_text c.args.policy) ≤ length c.args.out.now =
+    omega (arith, length-append (procs_text c.args.procs) (policy_text c.args.policy)) in
     -- the line of processors is laid, and the other has room behind it
     let behind : c.put_line-second.result + length (policy_text c.args.policy) ≤ length c.put_line-second.new.out = omega (
       arith,
@@ -34,7 +36,8 @@ pub slice_bounds-put_policy_line-start : goal.slice_bounds-put_policy_line-start
 unfolding head_text procs_text word_of
 slice_bounds-put_policy_line-start c =
     -- both lines have room
-    let parts : length (number_line 9 1 (c.args.procs ∷ [])) + length (policy_text c.args.policy) ≤ length c.args.out.now = omega (arith, length-append (procs_text c.args.procs) (policy_text c.args.policy)) in
+    let parts : length (number_line 9 1 (c.args.procs ∷ [])) + length (policy_text c.args.policy) ≤ length c.args.out.now =
+    omega (arith, length-append (procs_text c.args.procs) (policy_text c.args.policy)) in
     -- the line of processors is laid, and the other has room behind it
     let behind : c.put_line-second.result + length (policy_text c.args.policy) ≤ length c.put_line-second.new.out = omega (
       arith,
@@ -48,7 +51,8 @@ pub put_policy_line-n-requires : goal.put_policy_line-n-requires
 unfolding head_text procs_text word_of
 put_policy_line-n-requires c =
     -- both lines have room
-    let parts : length (number_line 9 1 (c.args.procs ∷ [])) + length (policy_text c.args.policy) ≤ length c.args.out.now = omega (arith, length-append (procs_text c.args.procs) (policy_text c.args.policy)) in
+    let parts : length (number_line 9 1 (c.args.procs ∷ [])) + length (policy_text c.args.policy) ≤ length c.args.out.now =
+    omega (arith, length-append (procs_text c.args.procs) (policy_text c.args.policy)) in
     -- the line of processors is laid, and the other has room behind it
     let behind : c.put_line-second.result + length (policy_text c.args.policy) ≤ length c.put_line-second.new.out = omega (
       arith,
@@ -63,7 +67,8 @@ pub overflow_add-result : goal.overflow_add-result
 unfolding head_text procs_text word_of
 overflow_add-result c =
     -- both lines have room
-    let parts : length (number_line 9 1 (c.args.procs ∷ [])) + length (policy_text c.args.policy) ≤ length c.args.out.now = omega (arith, length-append (procs_text c.args.procs) (policy_text c.args.policy)) in
+    let parts : length (number_line 9 1 (c.args.procs ∷ [])) + length (policy_text c.args.policy) ≤ length c.args.out.now =
+    omega (arith, length-append (procs_text c.args.procs) (policy_text c.args.policy)) in
     -- the line of processors is laid, and the other has room behind it
     let behind : c.put_line-second.result + length (policy_text c.args.policy) ≤ length c.put_line-second.new.out = omega (
       arith,
@@ -77,7 +82,8 @@ pub returns : goal.returns
 unfolding head_text procs_text word_of
 returns c =
     -- both lines have room
-    let parts : length (number_line 9 1 (c.args.procs ∷ [])) + length (policy_text c.args.policy) ≤ length c.args.out.now = omega (arith, length-append (procs_text c.args.procs) (policy_text c.args.policy)) in
+    let parts : length (number_line 9 1 (c.args.procs ∷ [])) + length (policy_text c.args.policy) ≤ length c.args.out.now =
+    omega (arith, length-append (procs_text c.args.procs) (policy_text c.args.policy)) in
     -- the line of processors is laid, and the other has room behind it
     let behind : c.put_line-second.result + length (policy_text c.args.policy) ≤ length c.put_line-second.new.out = omega (
       arith,

@@ -13,14 +13,16 @@ pub put_word-at-requires : goal.put_word-at-requires
 unfolding line_text more_fields policy_text word_of
 put_word-at-requires c =
     -- the word, the policy with its tab and the newline have room
-    let parts : 6 + (1 + length (policy_name c.args.policy)) + 1 ≤ length c.args.out.now = omega (arith, length-append (policy_name c.args.policy) (10 ∷ [])) in
+    let parts : 6 + (1 + length (policy_name c.args.policy)) + 1 ≤ length c.args.out.now =
+    omega (arith, length-append (policy_name c.args.policy) (10 ∷ [])) in
     omega (arith, parts)
 
 pub put_policy-end-requires : goal.put_policy-end-requires
 unfolding line_text more_fields policy_text word_of
 put_policy-end-requires c =
     -- the word, the policy with its tab and the newline have room
-    let parts : 6 + (1 + length (policy_name c.args.policy)) + 1 ≤ length c.args.out.now = omega (arith, length-append (policy_name c.args.policy) (10 ∷ [])) in
+    let parts : 6 + (1 + length (policy_name c.args.policy)) + 1 ≤ length c.args.out.now =
+    omega (arith, length-append (policy_name c.args.policy) (10 ∷ [])) in
     let put_word = c.put_word-at in
     omega (arith, parts, put_word.auto.out, put_word.ensures.behind)
 
@@ -28,7 +30,8 @@ pub bounds-out-end : goal.bounds-out-end
 unfolding line_text more_fields policy_text word_of
 bounds-out-end c =
     -- the word, the policy with its tab and the newline have room
-    let parts : 6 + (1 + length (policy_name c.args.policy)) + 1 ≤ length c.args.out.now = omega (arith, length-append (policy_name c.args.policy) (10 ∷ [])) in
+    let parts : 6 + (1 + length (policy_name c.args.policy)) + 1 ≤ length c.args.out.now =
+    omega (arith, length-append (policy_name c.args.policy) (10 ∷ [])) in
     -- the newline has room
     let last : c.put_policy-end.result < length c.put_policy-end.new.out = let word = c.put_word-at in
     let name = c.put_policy-end in
@@ -46,7 +49,8 @@ pub overflow_add-result : goal.overflow_add-result
 unfolding line_text more_fields policy_text word_of
 overflow_add-result c =
     -- the word, the policy with its tab and the newline have room
-    let parts : 6 + (1 + length (policy_name c.args.policy)) + 1 ≤ length c.args.out.now = omega (arith, length-append (policy_name c.args.policy) (10 ∷ [])) in
+    let parts : 6 + (1 + length (policy_name c.args.policy)) + 1 ≤ length c.args.out.now =
+    omega (arith, length-append (policy_name c.args.policy) (10 ∷ [])) in
     -- the newline has room
     let last : c.put_policy-end.result < length c.put_policy-end.new.out = let word = c.put_word-at in
     let name = c.put_policy-end in

@@ -16,7 +16,8 @@ loop-i-init c = rw (rows_none _ _ _) (omega arith, refl, laid_none _ _)
 pub slice_bounds-put_line-count : goal.slice_bounds-put_line-count
 slice_bounds-put_line-count c =
     -- its line has room in the unused end
-    let room : c.loop-i.end + length (row_text c.args.word c.args.width c.args.vs.now c.loop-i.i) ≤ length c.loop-i.out = let l = c.loop-i in
+    let room : c.loop-i.end + length (row_text c.args.word c.args.width c.args.vs.now c.loop-i.i) ≤ length c.loop-i.out = let l =
+    c.loop-i in
     let a = c.args in
     omega (arith, l.invariant.2.behind, rows_le a.word a.width a.vs.now l.i a.rows c.loop-i-test.true) in
     omega (arith, room)
@@ -24,7 +25,8 @@ slice_bounds-put_line-count c =
 pub slice_bounds-put_line-start : goal.slice_bounds-put_line-start
 slice_bounds-put_line-start c =
     -- its line has room in the unused end
-    let room : c.loop-i.end + length (row_text c.args.word c.args.width c.args.vs.now c.loop-i.i) ≤ length c.loop-i.out = let l = c.loop-i in
+    let room : c.loop-i.end + length (row_text c.args.word c.args.width c.args.vs.now c.loop-i.i) ≤ length c.loop-i.out = let l =
+    c.loop-i in
     let a = c.args in
     omega (arith, l.invariant.2.behind, rows_le a.word a.width a.vs.now l.i a.rows c.loop-i-test.true) in
     omega (arith, room)
@@ -32,7 +34,8 @@ slice_bounds-put_line-start c =
 pub put_line-n-requires : goal.put_line-n-requires
 put_line-n-requires c =
     -- its line has room in the unused end
-    let room : c.loop-i.end + length (row_text c.args.word c.args.width c.args.vs.now c.loop-i.i) ≤ length c.loop-i.out = let l = c.loop-i in
+    let room : c.loop-i.end + length (row_text c.args.word c.args.width c.args.vs.now c.loop-i.i) ≤ length c.loop-i.out = let l =
+    c.loop-i in
     let a = c.args in
     omega (arith, l.invariant.2.behind, rows_le a.word a.width a.vs.now l.i a.rows c.loop-i-test.true) in
     let l = c.loop-i in
@@ -42,11 +45,13 @@ put_line-n-requires c =
 pub overflow_add-end : goal.overflow_add-end
 overflow_add-end c =
     -- its line has room in the unused end
-    let room : c.loop-i.end + length (row_text c.args.word c.args.width c.args.vs.now c.loop-i.i) ≤ length c.loop-i.out = let l = c.loop-i in
+    let room : c.loop-i.end + length (row_text c.args.word c.args.width c.args.vs.now c.loop-i.i) ≤ length c.loop-i.out = let l =
+    c.loop-i in
     let a = c.args in
     omega (arith, l.invariant.2.behind, rows_le a.word a.width a.vs.now l.i a.rows c.loop-i-test.true) in
     -- the row is laid behind those before it
-    let laid : Laid c.loop-i.end (row_text c.args.word c.args.width c.args.vs.now c.loop-i.i) c.loop-i.out (put_mid c.loop-i.end (length c.loop-i.out - c.loop-i.end) c.loop-i.out c.put_line-n.new.out) (c.loop-i.end + c.put_line-n.result) = let l = c.loop-i in
+    let laid : Laid c.loop-i.end (row_text c.args.word c.args.width c.args.vs.now c.loop-i.i) c.loop-i.out (put_mid c.loop-i.end (length
+    c.loop-i.out - c.loop-i.end) c.loop-i.out c.put_line-n.new.out) (c.loop-i.end + c.put_line-n.result) = let l = c.loop-i in
     let a = c.args in
     rw (row_is a.word a.width a.vs.now l.i)
     (laid_part l.end _ l.out _ _ (omega (arith, room)) c.put_line-n.ensures) in
@@ -55,11 +60,13 @@ overflow_add-end c =
 pub loop-i-preserved : goal.loop-i-preserved
 loop-i-preserved c =
     -- its line has room in the unused end
-    let room : c.loop-i.end + length (row_text c.args.word c.args.width c.args.vs.now c.loop-i.i) ≤ length c.loop-i.out = let l = c.loop-i in
+    let room : c.loop-i.end + length (row_text c.args.word c.args.width c.args.vs.now c.loop-i.i) ≤ length c.loop-i.out = let l =
+    c.loop-i in
     let a = c.args in
     omega (arith, l.invariant.2.behind, rows_le a.word a.width a.vs.now l.i a.rows c.loop-i-test.true) in
     -- the row is laid behind those before it
-    let laid : Laid c.loop-i.end (row_text c.args.word c.args.width c.args.vs.now c.loop-i.i) c.loop-i.out (put_mid c.loop-i.end (length c.loop-i.out - c.loop-i.end) c.loop-i.out c.put_line-n.new.out) (c.loop-i.end + c.put_line-n.result) = let l = c.loop-i in
+    let laid : Laid c.loop-i.end (row_text c.args.word c.args.width c.args.vs.now c.loop-i.i) c.loop-i.out (put_mid c.loop-i.end (length
+    c.loop-i.out - c.loop-i.end) c.loop-i.out c.put_line-n.new.out) (c.loop-i.end + c.put_line-n.result) = let l = c.loop-i in
     let a = c.args in
     rw (row_is a.word a.width a.vs.now l.i)
     (laid_part l.end _ l.out _ _ (omega (arith, room)) c.put_line-n.ensures) in

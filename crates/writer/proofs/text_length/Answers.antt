@@ -29,12 +29,14 @@ overflow_add-head-3 c =
 
 pub overflow_add-tasks : goal.overflow_add-tasks
 overflow_add-tasks c =
-    let tasks : c.numbers_width.result ≤ 11 * (max_tasks * task_width) = omega (arith, c.numbers_width.ensures, numbers_room 9 c.args.table.now, c.requires.tasks, c.requires.few) in
+    let tasks : c.numbers_width.result ≤ 11 * (max_tasks * task_width) =
+    omega (arith, c.numbers_width.ensures, numbers_room 9 c.args.table.now, c.requires.tasks, c.requires.few) in
     omega (arith, tasks)
 
 pub overflow_add-releases : goal.overflow_add-releases
 overflow_add-releases c =
-    let releases : c.numbers_width-2.result ≤ 11 * (max_releases * release_width) = omega (arith, c.numbers_width-2.ensures, numbers_room 9 c.args.trace.now, c.requires.releases, c.requires.few') in
+    let releases : c.numbers_width-2.result ≤ 11 * (max_releases * release_width) =
+    omega (arith, c.numbers_width-2.ensures, numbers_room 9 c.args.trace.now, c.requires.releases, c.requires.few') in
     omega (arith, releases)
 
 pub overflow_add-result : goal.overflow_add-result
@@ -42,7 +44,8 @@ overflow_add-result c =
     -- none of the sums is large
     let first : c.width.result ≤ 10 = omega (arith, c.width.ensures, at_most_ten c.args.procs) in
     let head : c.policy_width.result ≤ name_room = omega (arith, c.policy_width.ensures, name_short c.args.policy) in
-    let tasks : c.numbers_width.result ≤ 11 * (max_tasks * task_width) = omega (arith, c.numbers_width.ensures, numbers_room 9 c.args.table.now, c.requires.tasks, c.requires.few) in
+    let tasks : c.numbers_width.result ≤ 11 * (max_tasks * task_width) =
+    omega (arith, c.numbers_width.ensures, numbers_room 9 c.args.table.now, c.requires.tasks, c.requires.few) in
     omega (arith, first, head, tasks)
 
 pub overflow_add-result-2 : goal.overflow_add-result-2
@@ -50,7 +53,8 @@ overflow_add-result-2 c =
     -- none of the sums is large
     let first : c.width.result ≤ 10 = omega (arith, c.width.ensures, at_most_ten c.args.procs) in
     let head : c.policy_width.result ≤ name_room = omega (arith, c.policy_width.ensures, name_short c.args.policy) in
-    let tasks : c.numbers_width.result ≤ 11 * (max_tasks * task_width) = omega (arith, c.numbers_width.ensures, numbers_room 9 c.args.table.now, c.requires.tasks, c.requires.few) in
+    let tasks : c.numbers_width.result ≤ 11 * (max_tasks * task_width) =
+    omega (arith, c.numbers_width.ensures, numbers_room 9 c.args.table.now, c.requires.tasks, c.requires.few) in
     omega (arith, first, head, tasks)
 
 pub overflow_add-result-3 : goal.overflow_add-result-3
@@ -58,7 +62,8 @@ overflow_add-result-3 c =
     -- none of the sums is large
     let first : c.width.result ≤ 10 = omega (arith, c.width.ensures, at_most_ten c.args.procs) in
     let head : c.policy_width.result ≤ name_room = omega (arith, c.policy_width.ensures, name_short c.args.policy) in
-    let tasks : c.numbers_width.result ≤ 11 * (max_tasks * task_width) = omega (arith, c.numbers_width.ensures, numbers_room 9 c.args.table.now, c.requires.tasks, c.requires.few) in
+    let tasks : c.numbers_width.result ≤ 11 * (max_tasks * task_width) =
+    omega (arith, c.numbers_width.ensures, numbers_room 9 c.args.table.now, c.requires.tasks, c.requires.few) in
     -- the end's digits too
     let last : c.width-2.result ≤ 10 = omega (arith, c.width-2.ensures, at_most_ten c.args.end) in
     omega (
@@ -74,8 +79,10 @@ overflow_add-result-4 c =
     -- none of the sums is large
     let first : c.width.result ≤ 10 = omega (arith, c.width.ensures, at_most_ten c.args.procs) in
     let head : c.policy_width.result ≤ name_room = omega (arith, c.policy_width.ensures, name_short c.args.policy) in
-    let tasks : c.numbers_width.result ≤ 11 * (max_tasks * task_width) = omega (arith, c.numbers_width.ensures, numbers_room 9 c.args.table.now, c.requires.tasks, c.requires.few) in
-    let releases : c.numbers_width-2.result ≤ 11 * (max_releases * release_width) = omega (arith, c.numbers_width-2.ensures, numbers_room 9 c.args.trace.now, c.requires.releases, c.requires.few') in
+    let tasks : c.numbers_width.result ≤ 11 * (max_tasks * task_width) =
+    omega (arith, c.numbers_width.ensures, numbers_room 9 c.args.table.now, c.requires.tasks, c.requires.few) in
+    let releases : c.numbers_width-2.result ≤ 11 * (max_releases * release_width) =
+    omega (arith, c.numbers_width-2.ensures, numbers_room 9 c.args.trace.now, c.requires.releases, c.requires.few') in
     -- the end's digits too
     let last : c.width-2.result ≤ 10 = omega (arith, c.width-2.ensures, at_most_ten c.args.end) in
     omega (

@@ -34,7 +34,8 @@ returns-then-number-ne0-2 c =
     -- past the first test the case has no fault
     let clear : (case_fault case).number ≡ 0 = ap (λ (f : Fault). f.number) (sym c.case_fault-found.ensures) ∙ c.if-number-ne0.false in
     -- what the room's test found
-    let tested : c.room_fault-short.result ≡ room_fault (length (case_text case)) (length c.args.out.now) = c.room_fault-short.ensures ∙ rw c.text_length-need.ensures in
+    let tested : c.room_fault-short.result ≡ room_fault (length (case_text case)) (length c.args.out.now) = c.room_fault-short.ensures
+    ∙ rw c.text_length-need.ensures in
     let f = c.room_fault-short in
     let room = c.args.out.now in
     refused case room f.result (room_at_fault case (length room) f.result clear
@@ -45,9 +46,11 @@ put_case-requires c =
     -- the case
     let case : Case = case_of c.args.procs c.args.policy c.args.table.now c.args.end c.args.trace.now in
     -- what the room's test found
-    let tested : c.room_fault-short.result ≡ room_fault (length (case_text case)) (length c.args.out.now) = c.room_fault-short.ensures ∙ rw c.text_length-need.ensures in
+    let tested : c.room_fault-short.result ≡ room_fault (length (case_text case)) (length c.args.out.now) = c.room_fault-short.ensures
+    ∙ rw c.text_length-need.ensures in
     -- past the second test the text fits
-    let enough : (room_fault (length (case_text case)) (length c.args.out.now)).number ≡ 0 = ap (λ (f : Fault). f.number) (sym tested) ∙ c.if-number-ne0-2.false in
+    let enough : (room_fault (length (case_text case)) (length c.args.out.now)).number ≡ 0 = ap (λ (f : Fault). f.number) (sym tested)
+    ∙ c.if-number-ne0-2.false in
     room_clear _ _ enough
 
 pub returns : goal.returns
@@ -57,9 +60,11 @@ returns c =
     -- past the first test the case has no fault
     let clear : (case_fault case).number ≡ 0 = ap (λ (f : Fault). f.number) (sym c.case_fault-found.ensures) ∙ c.if-number-ne0.false in
     -- what the room's test found
-    let tested : c.room_fault-short.result ≡ room_fault (length (case_text case)) (length c.args.out.now) = c.room_fault-short.ensures ∙ rw c.text_length-need.ensures in
+    let tested : c.room_fault-short.result ≡ room_fault (length (case_text case)) (length c.args.out.now) = c.room_fault-short.ensures
+    ∙ rw c.text_length-need.ensures in
     -- past the second test the text fits
-    let enough : (room_fault (length (case_text case)) (length c.args.out.now)).number ≡ 0 = ap (λ (f : Fault). f.number) (sym tested) ∙ c.if-number-ne0-2.false in
+    let enough : (room_fault (length (case_text case)) (length c.args.out.now)).number ≡ 0 = ap (λ (f : Fault). f.number) (sym tested)
+    ∙ c.if-number-ne0-2.false in
     let room = c.args.out.now in
     written case room _ _ (none_at_fault case (length room) clear enough)
     (room_clear _ _ enough) c.put_case.ensures
