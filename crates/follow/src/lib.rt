@@ -11,6 +11,7 @@ ghost use Rattle.rules.specs.Answers.{logged_as, settled};
 ghost use Rattle.rules.specs.Calls.{LogPromise};
 ghost use Rattle.rules.specs.Log.{keeps_rule};
 ghost use Rattle.lists.specs.Lists.{members};
+ghost use Rattle.bridge.specs.Steps.{Full};
 ghost use Rattle.counts.specs.Needs.{Counts};
 ghost use Rattle.traces.specs.Traces.{due};
 ghost use Rattle.feeds.specs.Feed.{Feed, opening, formed_heard, names_heard, feed, fed_fault};
@@ -49,8 +50,9 @@ fn must_open(trace: &[u32], next: usize, clock: u32, calm: bool) -> bool
 }
 
 // Steps 1 to 3 of the slot at a time, with the releases of that time: the run, the first release after them, and how many jobs there are.
+// The run is changed where it lies: one that is given back has a place of its own on the stack of the loop that calls.
 fn open_at(
-    run: Run,
+    run: &mut Run,
     procs: u32,
     policy: u32,
     table: &[u32],
@@ -59,15 +61,15 @@ fn open_at(
     clock: u32,
     next: &mut usize,
     jobs: &mut usize,
-) -> Run
-    requires { Openable procs policy table.now counts.now trace.now clock next.old }
-    ensures { Opens (setup_of procs policy table.now) trace.now clock run result next.new
-        jobs.new }
+)
+    requires openable { Openable procs policy table.now counts.now trace.now clock next.old }
+    requires full { Full run.old }
+    ensures { Opens (setup_of procs policy table.now) trace.now clock run.old run.new next.new jobs.new }
 {
     let mut released = [false; MAX_TASKS];
     let from = *next;
     *next = traces::take_releases(trace, from, clock, &mut released);
-    slot::open_run(run, procs, policy, table, counts, &released, clock, jobs)
+    *run = slot::open_run(*run, procs, policy, table, counts, &released, clock, jobs);
 }
 
 // The number of a slot by whether it stands.
@@ -263,8 +265,8 @@ pub fn feed(
         let ended = heard::line_end(scan, &mut s.named);
         if has_slot(ended, lines, end, &mut number) {
             if must_open(trace, next, lines, calm) {
-                s.run = open_at(
-                    s.run, procs, policy, table, counts, trace, lines, &mut next, &mut jobs,
+                open_at(
+                    &mut s.run, procs, policy, table, counts, trace, lines, &mut next, &mut jobs,
                 );
             }
             number = slot_number(s.run, procs, policy, lines, ended, jobs, &s.named);

@@ -58,8 +58,8 @@ returns-then-i-piece c =
     feeding_line k p _ l.i _ _ _ _ _ _ _ _ _ _ _ more.1 l.invariant h.ensures in
     λ f w. rw c.log_of.ensures (feeding_all k p _ _ h.new.at (omega (arith, c.if-i-piece.true)) fed f w)
 
-pub open_at-s-requires : goal.open_at-s-requires
-open_at-s-requires c =
+pub open_at-requires : goal.open_at-requires
+open_at-requires c =
     let k : Case = case_of c.args.procs c.args.policy c.args.table.now c.args.end c.args.trace.now in
     let p : List ℕ = c.args.piece.now in
     let l = c.loop-i in
@@ -75,7 +75,10 @@ open_at-s-requires c =
     let early : l.lines < k.end =
     ltb-true l.lines k.end (and_right (eqb c.has_slot.new.number 0) _ (sym c.has_slot.ensures.1 ∙ c.if-has_slot.true)) in
     let known = asked.2 early in
-    record { end = c.args.end; accepted = c.requires.accepted; before = early; counted = c.requires.counts; reached = known.1 }
+    record {
+      openable = record { end = c.args.end; accepted = c.requires.accepted; before = early; counted = c.requires.counts; reached = known.1 };
+      full = known.0
+    }
 
 pub slot_number-number-requires : goal.slot_number-number-requires
 slot_number-number-requires c =
@@ -97,7 +100,7 @@ slot_number-number-requires c =
     -- it is open, by its steps or as it stood
     let opens : Opens (setup_in k) k.trace l.lines l.s.run c.if-must_open.s.run c.if-must_open.next c.if-must_open.jobs =
     elim c.if-must_open.branch [
-      | then-must_open w ↦ rw (w.s-is, w.next-is, w.jobs-is) w.open_at-s.ensures
+      | then-must_open w ↦ rw (w.s-is, w.next-is, w.jobs-is) w.open_at.ensures
       | else-must_open w ↦
           rw (w.s-is, w.next-is, w.jobs-is)
           (opens_calm k c.requires.accepted _ _ _ _ l.calm known.0 known.1 known.2 (sym c.must_open.ensures ∙ w.if-must_open.false))
@@ -124,7 +127,7 @@ work_run-s-requires c =
     -- it is open, by its steps or as it stood
     let opens : Opens (setup_in k) k.trace l.lines l.s.run c.if-must_open.s.run c.if-must_open.next c.if-must_open.jobs =
     elim c.if-must_open.branch [
-      | then-must_open w ↦ rw (w.s-is, w.next-is, w.jobs-is) w.open_at-s.ensures
+      | then-must_open w ↦ rw (w.s-is, w.next-is, w.jobs-is) w.open_at.ensures
       | else-must_open w ↦
           rw (w.s-is, w.next-is, w.jobs-is)
           (opens_calm k c.requires.accepted _ _ _ _ l.calm known.0 known.1 known.2 (sym c.must_open.ensures ∙ w.if-must_open.false))
@@ -188,7 +191,7 @@ loop-i-preserved c =
           let j = w.if-must_open in
           let opens : Opens (setup_in k) k.trace l.lines l.s.run j.s.run j.next j.jobs =
           elim j.branch [
-            | then-must_open x ↦ rw (x.s-is, x.next-is, x.jobs-is) x.open_at-s.ensures
+            | then-must_open x ↦ rw (x.s-is, x.next-is, x.jobs-is) x.open_at.ensures
             | else-must_open x ↦
                 rw (x.s-is, x.next-is, x.jobs-is)
                 (opens_calm k c.requires.accepted _ _ _ _ l.calm known.0 known.1 known.2 (sym w.must_open.ensures ∙ x.if-must_open.false))
@@ -207,7 +210,7 @@ loop-i-preserved c =
           let j = w.if-must_open in
           let opens : Opens (setup_in k) k.trace l.lines l.s.run j.s.run j.next j.jobs =
           elim j.branch [
-            | then-must_open x ↦ rw (x.s-is, x.next-is, x.jobs-is) x.open_at-s.ensures
+            | then-must_open x ↦ rw (x.s-is, x.next-is, x.jobs-is) x.open_at.ensures
             | else-must_open x ↦
                 rw (x.s-is, x.next-is, x.jobs-is)
                 (opens_calm k c.requires.accepted _ _ _ _ l.calm known.0 known.1 known.2 (sym w.must_open.ensures ∙ x.if-must_open.false))

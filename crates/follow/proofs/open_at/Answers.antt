@@ -6,11 +6,11 @@ use Rattle.follow.proofs.Following.{opens-settled}
 use Rattle.follow.proofs.open_at.Goals as goal
 
 pub take_releases-requires : goal.take_releases-requires
-take_releases-requires c = let q = c.requires in record { orderly = orderly _ (legal _ q.accepted); reached = q.reached }
+take_releases-requires c = let q = c.requires.openable in record { orderly = orderly _ (legal _ q.accepted); reached = q.reached }
 
 pub open_run-requires : goal.open_run-requires
 open_run-requires c =
-    let q = c.requires in
+    let q = c.requires.openable in
     needed _ (legal _ q.accepted) _ q.before _ c.take_releases.ensures.2 _ q.counted
 
 pub returns : goal.returns
@@ -18,6 +18,6 @@ returns c =
     let t = c.take_releases.ensures in
     let p = c.open_run.ensures in
     let a = c.args in
-    let full = c.well_formed.0.1.1.0.1.0.1 in
-    opens-settled (case_of a.procs a.policy a.table.now c.requires.end a.trace.now) _ _ _ _ _ _ full t.2 t.1
+    let full = c.requires.full in
+    opens-settled (case_of a.procs a.policy a.table.now c.requires.openable.end a.trace.now) _ _ _ _ _ _ full t.2 t.1
     p.0 p.1
