@@ -1,0 +1,6 @@
+-- The case is accepted, so it has free counts.
+use Rattle.legal.specs.Legal.{accepted_procs, accepted_table}
+use Rattle.program.proofs.judge_file.Goals as goal
+
+pub free_counts-free-requires : goal.free_counts-free-requires
+free_counts-free-requires g c = (accepted_table _ c.requires, accepted_procs _ c.requires)
