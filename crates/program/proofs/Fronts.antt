@@ -1,5 +1,6 @@
 -- Fronts of lists: what came from an input, what was laid at the start of a room; and what is said of a front of the input.
-use Rattle.std.proofs.Common.{◌≡◌, ◌≤◌, ◌+◌, ℕ, List, ◌++◌, None, Some, IfSome, OnOk, Result, Ok, Err, length, take, drop, refl, sym, ap, ◌∙◌, subst, arith, take-take, take_at}
+use Rattle.std.proofs.Common.{◌≡◌, ◌≤◌, ◌+◌, ℕ, List, ◌++◌, None, Some, IfSome, OnOk, Result, Ok, Err, length, take, drop, refl, sym, ap}
+use Rattle.std.proofs.Common.{◌∙◌, subst, arith, take-take, take_at}
 use Rattle.std.proofs.lemmas.List.{length-take-le}
 use Rattle.std.proofs.lemmas.Slice.{take-put_mid}
 use lib.Seq.{take-append-add}
@@ -14,7 +15,8 @@ use Rattle.program.specs.declared.Outcome.{Outcome}
 use Rattle.program.specs.Ends.{answered}
 
 -- a read of k bytes behind the first n
-pub read_front : (n m k : ℕ) (old buf : List ℕ) → n ≤ length old → k ≤ length buf → take (n + k) (put_mid n m old buf) ≡ take n old ++ take k buf
+pub read_front : (n m k : ℕ) (old buf : List ℕ) → n ≤ length old → k ≤ length buf → take (n + k) (put_mid n m old buf)
+    ≡ take n old ++ take k buf
 read_front n m k old buf h few =
     sym (take-take (n + k) (n + length buf) (put_mid n m old buf) (omega arith))
     ∙ ap (take (n + k)) (take-put_mid n m old buf (n + length buf) refl h)

@@ -76,8 +76,15 @@ open_at-requires c =
     ltb-true l.lines k.end (and_right (eqb c.has_slot.new.number 0) _ (sym c.has_slot.ensures.1 ∙ c.if-has_slot.true)) in
     let known = asked.2 early in
     record {
-      openable = record { end = c.args.end; accepted = c.requires.accepted; before = early; counted = c.requires.counts; reached = known.1 };
-      full = known.0
+      openable = record {
+        end = c.args.end;
+        accepted = c.requires.accepted;
+        before = early;
+        counted = c.requires.counts;
+        reached =
+            known.1;
+      };
+      full = known.0;
     }
 
 pub slot_number-number-requires : goal.slot_number-number-requires

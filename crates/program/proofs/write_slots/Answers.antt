@@ -36,4 +36,5 @@ pub returns : goal.returns
 returns g c =
     let v = c.loop-play.invariant in
     let over : c.loop-play.play.clock ≡ c.args.end = omega (arith, c.loop-play-test.false, v.plays.within) in
-    on_ok _ _ (subst (Appends _ _) (told_all (case_of c.args.procs c.args.policy c.args.table.now c.args.end c.args.trace.now) _ _ v.told over) (Appends-kept _ _ _ _ v.wrote c.flush.ensures.bytes))
+    on_ok _ _ (subst (Appends _ _) (told_all (case_of c.args.procs c.args.policy c.args.table.now c.args.end c.args.trace.now) _ _ v.told
+    over) (Appends-kept _ _ _ _ v.wrote c.flush.ensures.bytes))
