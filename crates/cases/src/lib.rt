@@ -1,10 +1,50 @@
-// A table and a trace as lent numbers, read by the names that the rules give their parts (rules, Case).
+// A case as lent numbers, read by the names that the rules give its parts (rules, Case).
 #![tactic(auto)]
 
 ghost use Rattle.std.specs.Prelude.{◌≡◌, ◌<◌};
 ghost use Rattle.rules.specs.Case.{task_count, period, execution, deadline, release_count, time_of, name_of};
 
 use rules::{RELEASE_WIDTH, TASK_WIDTH};
+use std::marker::Model;
+
+// ---- a case
+
+// Processors, policy, task numbers, end and release numbers: any at all, as they are lent. A contract sees the case that they are.
+#[derive(Drop)]
+pub struct Case<'a> {
+    pub procs: u32,
+    pub policy: u32,
+    pub table: &'a [u32],
+    pub end: u32,
+    pub trace: &'a [u32],
+}
+
+impl<'a> Model for Case<'a> {
+    ghost use Rattle.rules.specs.Case.{Case, case_of};
+
+    ghost Value = { Case };
+
+    ghost view = { λ c. case_of c.procs c.policy c.table.now c.end c.trace.now };
+}
+
+// A case at which nothing is at fault: whoever makes one shows that it is accepted (crate checks, `accept`).
+#[derive(Drop)]
+pub struct AcceptedCase<'a> {
+    pub case: Case<'a>,
+}
+
+impl<'a> Model for AcceptedCase<'a> {
+    ghost use Rattle.rules.specs.Case.{Case};
+    ghost use Rattle.rules.specs.Refusals.{Accepted};
+
+    ghost Value = { Case };
+
+    ghost view = { λ c. c.case };
+
+    ghost invariant = { λ c. Accepted c.case };
+}
+
+// ---- its table
 
 // How many tasks a table has.
 pub fn task_count(table: &[u32]) -> usize
@@ -36,6 +76,8 @@ pub fn deadline_of(table: &[u32], i: usize) -> u32
 {
     table[i * TASK_WIDTH + 2]
 }
+
+// ---- its trace
 
 // How many releases a trace has.
 pub fn release_count(trace: &[u32]) -> usize

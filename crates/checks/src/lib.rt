@@ -3,103 +3,96 @@
 #![tactic(auto)]
 
 ghost use Rattle.std.specs.Prelude.{◌≡◌};
-ghost use Rattle.rules.specs.Case.{case_of};
-ghost use Rattle.rules.specs.Refusals.{first, case_fault, counts_fault, replay_fault, running_fault};
+ghost use Rattle.rules.specs.Case.{Case};
+ghost use Rattle.rules.specs.Refusals.{unless_fault, checked, first, case_fault, counts_fault, replay_fault, running_fault};
 ghost use Rattle.checks.specs.Rows.{Sound, table_tests, head_tests, trace_tests};
 
-pub use faults::{fault, room_fault};
+use cases::{AcceptedCase, Case};
 use lowest::{absences_fault, releases_fault, tasks_fault};
-use rules::{Fault, MAX_TASKS, RECORD_WIDTH};
+use rules::{Fault, RECORD_WIDTH};
+
+// ---- rows of tests
 
 // 5, then 6, which is asked of few tasks alone
-pub fn table_checks(table: &[u32]) -> Fault
-    ensures { result ≡ first (table_tests table.now) }
+#[tactic(auto, using(legal::specs::Firsts::rows))]
+pub fn table_checks(table: &[u32]) -> Result<(), Fault>
+    ensures { result ≡ checked (first (table_tests table.now)) }
 {
-    let size = faults::table_fault(table);
-    let number = size.number;
-    if number != 0 {
-        return size;
-    }
-    faults::first_of_two(size, tasks_fault(table))
+    faults::table_fault(table)?;
+    tasks_fault(table)
 }
 
 // 4, 14, 5, 6
-pub fn head_checks(procs: u32, policy: u32, table: &[u32]) -> Fault
-    ensures { result ≡ first (head_tests procs policy table.now) }
+#[tactic(auto, using(legal::specs::Firsts::rows))]
+pub fn head_checks(case: &Case) -> Result<(), Fault>
+    ensures { result ≡ checked (first (head_tests case.now.procs case.now.policy case.now.table)) }
 {
-    let processors = faults::procs_fault(procs);
-    let known = faults::policy_fault(policy);
-    faults::or_next(processors, faults::or_next(known, table_checks(table)))
+    faults::procs_fault(case.procs)?;
+    faults::policy_fault(case.policy)?;
+    table_checks(case.table)
 }
 
 // 7, 12, then release by release, which is asked of few releases before an end that stands, then 16
-pub fn trace_checks(table: &[u32], end: u32, trace: &[u32]) -> Fault
-    requires { Sound table.now }
-    ensures { result ≡ first (trace_tests table.now end trace.now) }
+#[tactic(auto, using(legal::specs::Firsts::rows))]
+pub fn trace_checks(case: &Case) -> Result<(), Fault>
+    requires { Sound case.now.table }
+    ensures { result ≡ checked (first (trace_tests case.now.table case.now.end case.now.trace)) }
 {
-    let size = faults::first_of_two(faults::end_fault(end), faults::trace_fault(trace));
-    let number = size.number;
-    if number != 0 {
-        return size;
-    }
-    let mut last: [u32; MAX_TASKS] = [0; MAX_TASKS];
-    let releases = releases_fault(table, end, trace, &mut last);
-    let absences = absences_fault(table, &last);
-    faults::or_next(size, faults::first_of_two(releases, absences))
+    faults::end_fault(case.end)?;
+    faults::trace_fault(case.trace)?;
+    let last = releases_fault(case.table, case.end, case.trace)?;
+    absences_fault(case.table, &last)
 }
 
+// ---- what each call asks
+
 // The checks on the numbers of a whole case, in their order.
-pub fn case_fault(procs: u32, policy: u32, table: &[u32], end: u32, trace: &[u32]) -> Fault
-    ensures { result ≡ case_fault (case_of procs policy table.now end trace.now) }
+#[tactic(auto, using(legal::specs::Firsts::rows), unfolding(rules::specs::Refusals::case_fault))]
+pub fn case_fault(case: &Case) -> Result<(), Fault>
+    ensures { result ≡ checked (case_fault case.now) }
 {
-    let head = head_checks(procs, policy, table);
-    let number = head.number;
-    if number != 0 {
-        return head;
-    }
-    faults::or_next(head, trace_checks(table, end, trace))
+    head_checks(case)?;
+    trace_checks(case)
+}
+
+// A case that passes them, as an accepted one: whoever is handed it asks no more.
+#[tactic(auto, using(legal::specs::Firsts::gives))]
+pub fn accept<'a>(case: Case<'a>) -> Result<AcceptedCase<'a>, Fault>
+    ensures { result ≡ unless_fault (case_fault case.entry) case.entry }
+{
+    case_fault(&case)?;
+    Ok(AcceptedCase { case })
 }
 
 // The counts call's checks: 4, 5, 6, then the room.
-pub fn counts_fault(procs: u32, table: &[u32], room: usize) -> Fault
-    ensures { result ≡ counts_fault procs table.now room }
+#[tactic(auto, using(legal::specs::Firsts::rows), unfolding(rules::specs::Refusals::counts_fault))]
+pub fn counts_fault(procs: u32, table: &[u32], room: usize) -> Result<(), Fault>
+    ensures { result ≡ checked (counts_fault procs table.now room) }
 {
-    let processors = faults::procs_fault(procs);
-    let stands = table_checks(table);
-    let tasks = cases::task_count(table);
-    let fits = faults::room_fault(tasks, room);
-    let others = faults::or_next(stands, faults::first_of_one(fits));
-    faults::or_next(processors, others)
+    faults::procs_fault(procs)?;
+    table_checks(table)?;
+    faults::room_fault(cases::task_count(table), room)
 }
 
-// The replay's checks: those of the case, then the room.
-pub fn replay_fault(
-    procs: u32,
-    policy: u32,
-    table: &[u32],
-    end: u32,
-    trace: &[u32],
-    room: usize,
-) -> Fault
-    ensures { result ≡ replay_fault (case_of procs policy table.now end trace.now) room }
+// The replay's: those of the case, then the room.
+#[tactic(auto, using(legal::specs::Firsts::rows, legal::specs::Firsts::gives), unfolding(rules::specs::Refusals::replay_fault))]
+pub fn accept_replay<'a>(case: Case<'a>, room: usize) -> Result<AcceptedCase<'a>, Fault>
+    ensures { result ≡ unless_fault (replay_fault case.entry room) case.entry }
 {
-    let legal = case_fault(procs, policy, table, end, trace);
-    let fits = faults::room_fault(cases::release_count(trace) * RECORD_WIDTH, room);
-    faults::first_of_two(legal, fits)
+    let replayed = accept(case)?;
+    faults::room_fault(
+        cases::release_count(replayed.case.trace) * RECORD_WIDTH,
+        room,
+    )?;
+    Ok(replayed)
 }
 
-// The running set's checks: those of the case, then the named slot.
-pub fn running_fault(
-    procs: u32,
-    policy: u32,
-    table: &[u32],
-    end: u32,
-    trace: &[u32],
-    slot: u32,
-) -> Fault
-    ensures { result ≡ running_fault (case_of procs policy table.now end trace.now) slot }
+// The running set's: those of the case, then the named slot.
+#[tactic(auto, using(legal::specs::Firsts::rows, legal::specs::Firsts::gives), unfolding(rules::specs::Refusals::running_fault))]
+pub fn accept_running<'a>(case: Case<'a>, slot: u32) -> Result<AcceptedCase<'a>, Fault>
+    ensures { result ≡ unless_fault (running_fault case.entry slot) case.entry }
 {
-    let legal = case_fault(procs, policy, table, end, trace);
-    let before_end = faults::slot_fault(end, slot);
-    faults::first_of_two(legal, before_end)
+    let accepted = accept(case)?;
+    faults::slot_fault(accepted.case.end, slot)?;
+    Ok(accepted)
 }

@@ -5,7 +5,6 @@ use Rattle.std.specs.Prelude.{◌≡◌, refl, List, [], ◌∷◌, ◌++◌, �
 use Rattle.std.proofs.Common.{sym, ap, ap₂, ◌∙◌, subst, arith, length-append}
 use Rattle.rules.specs.declared.Fault.{Fault}
 use Rattle.rules.specs.declared.Taken.{Taken}
-use Rattle.rules.specs.declared.Written.{Written}
 use Rattle.rules.specs.Limits.{max_tasks, max_releases, max_text, task_width, release_width}
 use Rattle.rules.specs.Answers.{refusal, result, written_as}
 use Rattle.rules.specs.Calls.{ReadPromise, ConvertPromise}
@@ -19,6 +18,7 @@ use Rattle.texts.specs.Passing.{length_clear, read_roomy}
 use Rattle.roundtrip.specs.RoundTrip.{case_accepted}
 use Rattle.roundtrip.specs.CallTrip.{in_hand, ReadAs, read_as, Read, Wrote}
 use Rattle.conversion.specs.Conversion.{case_converted, converted_once, fault_converted, refuses, Converts, converts}
+use Rattle.std.specs.Prelude.{Result}
 
 -- ---- one call
 -- where nothing is at fault
@@ -32,15 +32,15 @@ unfolding convert_bytes
 bytes_clear s room h = kept_new (convert_fault s (length room)) _ _ h
 
 -- a conversion that gave a result: nothing was at fault, and the lent bytes begin with the converted text
-record Result (s bytes : List ℕ) (n : ℕ) (later : List ℕ) : Type 0 where
+record Converted (s bytes : List ℕ) (n : ℕ) (later : List ℕ) : Type 0 where
   pub clear : Converts s (length bytes)
   pub long : n ≡ length (converted s)
   pub left : later ≡ converted s ++ drop (length (converted s)) bytes
   pub text : take n later ≡ converted s
   pub fault : (text_fault (converted s)).number ≡ 0
 
-converted_result : (s bytes : List ℕ) (w : Written) (later : List ℕ) (n : ℕ)
-    → ConvertPromise s bytes w later → written_as w ≡ result (n ∷ []) → Result s bytes n later
+converted_result : (s bytes : List ℕ) (w : Result ℕ Fault) (later : List ℕ) (n : ℕ)
+    → ConvertPromise s bytes w later → written_as w ≡ result (n ∷ []) → Converted s bytes n later
 unfolding convert_answer
 converted_result s bytes w later n promise said =
     let f = convert_fault s (length bytes) in
@@ -57,7 +57,7 @@ converted_result s bytes w later n promise said =
     }
 
 -- its length is within the lent bytes
-pub result_fits : (s bytes : List ℕ) (w : Written) (later : List ℕ) (n : ℕ)
+pub result_fits : (s bytes : List ℕ) (w : Result ℕ Fault) (later : List ℕ) (n : ℕ)
     → ConvertPromise s bytes w later → written_as w ≡ result (n ∷ []) → n ≤ length later
 result_fits s bytes w later n promise said =
     let v = converted_result s bytes w later n promise said in
@@ -72,7 +72,7 @@ read_converted s tasks releases h f p q =
     (read_as (converted s) tasks releases (rw (read_roomy (converted s) _ _ p q) f)
     (legal (case_in (converted s)) (case_accepted (converted s) f)))
 
-pub read_what_was_converted : (s bytes : List ℕ) (w : Written) (later : List ℕ) (n : ℕ) (tasks releases : List ℕ) (r : Taken)
+pub read_what_was_converted : (s bytes : List ℕ) (w : Result ℕ Fault) (later : List ℕ) (n : ℕ) (tasks releases : List ℕ) (r : Result Taken Fault)
     (ts rs : List ℕ)
     → ConvertPromise s bytes w later
     → written_as w ≡ result (n ∷ [])
@@ -92,7 +92,7 @@ read_what_was_converted s bytes w later n tasks releases r ts rs promise said p 
     }
 
 -- ---- converting what was converted changes nothing
-pub converted_what_was_converted : (s bytes : List ℕ) (w : Written) (later : List ℕ) (n : ℕ) (bytes' : List ℕ) (w' : Written)
+pub converted_what_was_converted : (s bytes : List ℕ) (w : Result ℕ Fault) (later : List ℕ) (n : ℕ) (bytes' : List ℕ) (w' : Result ℕ Fault)
     (later' : List ℕ)
     → ConvertPromise s bytes w later
     → written_as w ≡ result (n ∷ [])
@@ -116,7 +116,7 @@ converted_what_was_converted s bytes w later n bytes' w' later' promise said fit
         }
 
 -- ---- a refusal tells number and place of the fault, and leaves the lent bytes as they were
-pub refused_left : (s bytes : List ℕ) (w : Written) (later : List ℕ) → ConvertPromise s bytes w later
+pub refused_left : (s bytes : List ℕ) (w : Result ℕ Fault) (later : List ℕ) → ConvertPromise s bytes w later
     → ((convert_fault s (length bytes)).number ≡ 0 → ⊥)
     → (written_as w ≡ refusal (convert_fault s (length bytes)).number (convert_fault s (length bytes)).place) × (later ≡ bytes)
 unfolding convert_answer convert_bytes

@@ -9,21 +9,14 @@ ghost use Rattle.rules.specs.Calls.{CountsPromise};
 ghost use Rattle.legal.specs.Passing.{Procs, Sound};
 ghost use Rattle.counts.specs.Needs.{max_availability, Counts};
 
-use rules::{Counted, MAX_TASKS};
-
-fn smaller(a: u32, b: u32) -> u32
-    ensures { result ≡ min a b }
-{
-    if a < b { a } else { b }
-}
+use rules::{Fault, MAX_TASKS};
 
 // The availability of a task in so many slots; the bound keeps the sum over all tasks within a u32.
 fn availability_of(period: u32, deadline: u32, slots: u32) -> u32
     requires { (1 ≤ period) × (deadline ≤ max_period) × (slots ≤ max_period) }
     ensures { (result ≡ availability period deadline slots) × (result ≤ max_availability) }
 {
-    let part = smaller(deadline, slots % period);
-    slots / period * deadline + part
+    slots / period * deadline + deadline.min(slots % period)
 }
 
 // The count for so many slots.
@@ -31,17 +24,13 @@ fn count_of(procs: u32, table: &[u32], slots: u32) -> u32
     requires { Sound table.now × Procs procs × (slots ≤ max_period) }
     ensures { result ≡ count procs table.now slots }
 {
-    let tasks = cases::task_count(table);
     let mut sum: u32 = 0;
-    let mut i: usize = 0;
-    while i < tasks {
+    for i in 0..cases::task_count(table) {
         let period = cases::period_of(table, i);
         let deadline = cases::deadline_of(table, i);
         sum += availability_of(period, deadline, slots);
-        i += 1;
     }
-    let shared = sum / (procs + 1);
-    if slots < shared { 0 } else { slots - shared }
+    slots.saturating_sub(sum / (procs + 1))
 }
 
 // The free count of a task: the count for as many slots as its deadline is long.
@@ -59,11 +48,8 @@ fn put_counts(procs: u32, table: &[u32], out: &mut [u32])
     ensures { out.new ≡ free_counts procs table.now
         ++ drop (task_count table.now) out.old }
 {
-    let tasks = cases::task_count(table);
-    let mut i: usize = 0;
-    while i < tasks {
+    for i in 0..cases::task_count(table) {
         out[i] = free_count(procs, table, i);
-        i += 1;
     }
 }
 
@@ -72,23 +58,16 @@ pub fn free_counts(procs: u32, table: &[u32]) -> [u32; MAX_TASKS]
     requires { Sound table.now × Procs procs }
     ensures { Counts procs table.now result }
 {
-    let mut counts: [u32; MAX_TASKS] = [0; MAX_TASKS];
+    let mut counts = [0; MAX_TASKS];
     put_counts(procs, table, &mut counts);
     counts
 }
 
 // The counts of any table: a refusal that leaves the room as it was, or the number of tasks and their free counts.
-pub fn counts(procs: u32, table: &[u32], out: &mut [u32]) -> Counted
+pub fn counts(procs: u32, table: &[u32], out: &mut [u32]) -> Result<usize, Fault>
     ensures { CountsPromise procs table.now out.old result out.new }
 {
-    let room = out.len();
-    let found = checks::counts_fault(procs, table, room);
-    let number = found.number;
-    let place = found.place;
-    if number != 0 {
-        return Counted::Refused { number, place };
-    }
+    checks::counts_fault(procs, table, out.len())?;
     put_counts(procs, table, out);
-    let tasks = cases::task_count(table);
-    Counted::Counts { tasks }
+    Ok(cases::task_count(table))
 }

@@ -1,13 +1,12 @@
 -- The state of a log that is fed (Feed) does not grow: every number in it fits 32 bits, and the lines are counted no further than any time
 -- can name unless a fault was found. And from the end on the state of the run does not matter. For the code that keeps it.
+use Rattle.std.specs.Prelude.{Option, Some, None}
 use Rattle.std.specs.Prelude.{◌≡◌, Bool, false, ◌&&◌, List, [], ◌∷◌, ℕ, zero, suc, ◌^◌, ◌≤◌, ◌<◌, eqb, leb, length}
 use Rattle.std.proofs.Math.Path.{refl}
 use Rattle.std.proofs.Common.{ap, ◌∙◌, pow-suc, arith, eqb-true, leb-true, le-leb}
 use Rattle.std.proofs.Math.Bool.{true}
 use Rattle.std.proofs.lemmas.Bool.{false≢true}
 use Rattle.std.proofs.Math.Nat.{pow-le-pow_right}
-use Rattle.rules.specs.declared.Num.{Num}
-use Rattle.rules.specs.declared.Num.TheVariants as Num·
 use Rattle.rules.specs.declared.Fault.{Fault}
 use Rattle.rules.specs.declared.Run.{Run}
 use Rattle.rules.specs.Words.{pick}
@@ -49,14 +48,14 @@ small_word [] b h = picked LineSmall (eqb b tab_byte) _ _ (λ e. (omega arith, o
 small_word (x ∷ xs) b h = picked LineSmall (eqb b tab_byte) _ _ (λ e. tt)
     (λ e. picked LineSmall (eqb b x) _ _ (λ q. omega arith) (λ q. tt))
 
-small_time : (n : Num) → ValueSmall n → LineSmall (after_time n)
-small_time Num·.Bad h = tt
-small_time (Num·.Value v) h = (h, omega arith, (omega arith, omega arith))
+small_time : (n : Option ℕ) → ValueSmall n → LineSmall (after_time n)
+small_time None h = tt
+small_time (Some v) h = (h, omega arith, (omega arith, omega arith))
 
-small_task : (t low : ℕ) (rises names : Bool) (set : TaskSet) (n : Num) → t < 10 ^ 9 → ValueSmall n
+small_task : (t low : ℕ) (rises names : Bool) (set : TaskSet) (n : Option ℕ) → t < 10 ^ 9 → ValueSmall n
     → LineSmall (after_task t low rises names set n)
-small_task t low rises names set Num·.Bad l h = tt
-small_task t low rises names set (Num·.Value v) l h = (l, omega arith, (omega arith, omega arith))
+small_task t low rises names set None l h = tt
+small_task t low rises names set (Some v) l h = (l, omega arith, (omega arith, omega arith))
 
 pub small_field : (x : LineScan) (b : ℕ) → LineSmall x → LineSmall (field_byte x b)
 unfolding field_byte
@@ -87,14 +86,14 @@ small_heard wrong h = tt
 small_heard (in_word ws) h = tt
 small_heard (in_time k v) h = go (num_end (num_so_far k v)) (small_end (num_so_far k v) h)
   where
-    go : (n : Num) → ValueSmall n → HeardSmall (heard_time n)
-    go Num·.Bad h = tt
-    go (Num·.Value v) h = h
+    go : (n : Option ℕ) → ValueSmall n → HeardSmall (heard_time n)
+    go None h = tt
+    go (Some v) h = h
 small_heard (in_task t low rises names set k v) h = go (num_end (num_so_far k v))
   where
-    go : (n : Num) → HeardSmall (heard_task t low rises names set n)
-    go Num·.Bad = tt
-    go (Num·.Value v) = h.0
+    go : (n : Option ℕ) → HeardSmall (heard_task t low rises names set n)
+    go None = tt
+    go (Some v) = h.0
 small_heard (returned t rises names set) h = h
 
 small_after : (h : Heard) → HeardSmall h → LineSmall (after_return h)

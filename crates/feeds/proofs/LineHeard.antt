@@ -1,4 +1,5 @@
 -- What is heard of the fields of a line, read byte by byte (LineScan), is what `slot_says` of rules, Log, says of them. For Returned.
+use Rattle.std.specs.Prelude.{Option, Some, None}
 use Rattle.std.specs.Prelude.{◌≡◌, Bool, ◌&&◌, ◌||◌, ℕ, zero, suc, ◌≤◌, ◌<◌, eqb, ltb}
 use Rattle.std.proofs.Math.Path.{refl, ap, fun_ext}
 use Rattle.std.proofs.Common.{sym, ◌∙◌, arith, le-leb, lt-ltb, le-ltb}
@@ -8,8 +9,6 @@ use mathlib.Core.List.{List, [], ◌∷◌}
 use Rattle.std.proofs.Math.Decide.{dec_lt}
 use Rattle.std.proofs.Math.Dec.{leb}
 use Rattle.std.proofs.Math.ListN.{length}
-use Rattle.rules.specs.declared.Num.{Num}
-use Rattle.rules.specs.declared.Num.TheVariants as Num·
 use Rattle.rules.specs.Words.{pick}
 use Rattle.rules.specs.Limits.{max_tasks}
 use Rattle.rules.specs.Slot.{TaskSet}
@@ -33,11 +32,11 @@ unfolding with_numbers hear_numbers
 hears-numbers [] say = refl
 hears-numbers (f ∷ fs) say = go (number_in f) (λ v. hears-numbers fs (λ vs. say (v ∷ vs)))
   where
-    go : (n : Num) → ((v : ℕ) → hears (with_numbers fs (λ vs. say (v ∷ vs))) ≡ hear_numbers fs (λ vs. hears (say (v ∷ vs))))
+    go : (n : Option ℕ) → ((v : ℕ) → hears (with_numbers fs (λ vs. say (v ∷ vs))) ≡ hear_numbers fs (λ vs. hears (say (v ∷ vs))))
         → hears (with_value n (λ v. with_numbers fs (λ vs. say (v ∷ vs))))
         ≡ with_heard n (λ v. hear_numbers fs (λ vs. hears (say (v ∷ vs))))
-    go Num·.Bad more = unfold hears in refl
-    go (Num·.Value v) more = more v
+    go None more = unfold hears in refl
+    go (Some v) more = more v
 
 ltb_leb : (a b : ℕ) → ltb a b ≡ leb (suc a) b
 ltb_leb a b = go (dec_lt a b)
@@ -104,9 +103,9 @@ module _ (t low : ℕ) (rises names : Bool) (set : TaskSet) where
   task_last s h = ap line_end (task_field t low rises names set s num_start h) ∙ task_end t low rises names set (num_all num_start s)
       ∙ ap (heard_task t low rises names set) (num_scanned s) ∙ go (number_in s)
     where
-      go : (n : Num) → heard_task t low rises names set n ≡ with_heard n (λ v. heard_tasks t low rises names set (v ∷ []))
-      go Num·.Bad = refl
-      go (Num·.Value v) = unfold heard_tasks in refl
+      go : (n : Option ℕ) → heard_task t low rises names set n ≡ with_heard n (λ v. heard_tasks t low rises names set (v ∷ []))
+      go None = refl
+      go (Some v) = unfold heard_tasks in refl
 
   -- a task with a tab behind it
   task_tab : (f : List ℕ) → has tab_byte f ≡ false → field_byte (field_all (in_task t low rises names set 0 0) f) tab_byte
@@ -121,9 +120,9 @@ time_last : (s : List ℕ) → has tab_byte s ≡ false → line_end (field_all 
 unfolding line_end
 time_last s h = ap line_end (time_field s num_start h) ∙ time_end (num_all num_start s) ∙ ap heard_time (num_scanned s) ∙ go (number_in s)
   where
-    go : (n : Num) → heard_time n ≡ with_heard n (λ v. heard_all (v ∷ []))
-    go Num·.Bad = refl
-    go (Num·.Value v) = unfold heard_all heard_tasks in refl
+    go : (n : Option ℕ) → heard_time n ≡ with_heard n (λ v. heard_all (v ∷ []))
+    go None = refl
+    go (Some v) = unfold heard_all heard_tasks in refl
 
 time_tab : (f : List ℕ) → has tab_byte f ≡ false → field_byte (field_all (in_time 0 0) f) tab_byte ≡ after_time (number_in f)
 unfolding field_byte
@@ -159,10 +158,10 @@ scan_tasks (suc k) (b ∷ s) h t low rises names set =
         (task_tab t low rises names set (field_of (b ∷ s)) (unfold field_of in up_to_without tab_byte (b ∷ s)))
         ∙ (unfold hear_numbers heard_tasks in next (number_in (field_of (b ∷ s))))
       where
-        next : (n : Num) → line_end (field_all (after_task t low rises names set n) (after_field (b ∷ s)))
+        next : (n : Option ℕ) → line_end (field_all (after_task t low rises names set n) (after_field (b ∷ s)))
             ≡ with_heard n (λ v. hear_numbers (fields_in k (after_field (b ∷ s))) (λ vs. heard_tasks t low rises names set (v ∷ vs)))
-        next Num·.Bad = wrong_ends (after_field (b ∷ s))
-        next (Num·.Value v) = unfold heard_tasks in more t (suc v) (rises && leb low v) (names && is_name v) (with_name set v)
+        next None = wrong_ends (after_field (b ∷ s))
+        next (Some v) = unfold heard_tasks in more t (suc v) (rises && leb low v) (names && is_name v) (with_name set v)
 
 scan_time : (k : ℕ) (s : List ℕ) → length s ≤ k → line_end (field_all (in_time 0 0) s) ≡ hear_numbers (fields_in k s) heard_all
 unfolding fields_in hear_numbers
@@ -181,10 +180,10 @@ scan_time (suc k) (b ∷ s) h = go (has tab_byte (b ∷ s)) refl (unfold after_f
         (time_tab (field_of (b ∷ s)) (unfold field_of in up_to_without tab_byte (b ∷ s)))
         ∙ (unfold hear_numbers heard_all in next (number_in (field_of (b ∷ s))))
       where
-        next : (n : Num) → line_end (field_all (after_time n) (after_field (b ∷ s)))
+        next : (n : Option ℕ) → line_end (field_all (after_time n) (after_field (b ∷ s)))
             ≡ with_heard n (λ v. hear_numbers (fields_in k (after_field (b ∷ s))) (λ vs. heard_all (v ∷ vs)))
-        next Num·.Bad = wrong_ends (after_field (b ∷ s))
-        next (Num·.Value v) = unfold heard_all in scan_tasks k (after_field (b ∷ s)) l v 0 true true (set_named [])
+        next None = wrong_ends (after_field (b ∷ s))
+        next (Some v) = unfold heard_all in scan_tasks k (after_field (b ∷ s)) l v 0 true true (set_named [])
 
 -- ---- the whole line
 -- fields of numbers are heard as what they say

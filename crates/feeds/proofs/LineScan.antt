@@ -1,10 +1,9 @@
 -- A line of a log read byte by byte, in a state that does not grow: what is left of the word, the time, and of the tasks the least number
 -- that would rise, whether they rise and are tasks, and their set; or what was heard before a return. At its end it has heard what
 -- `slot_says` of rules, Log, says: of its fields by LineHeard, with its return by Returned. For Feed.
+use Rattle.std.specs.Prelude.{Option, Some, None}
 use Rattle.std.specs.Prelude.{◌≡◌, refl, Bool, true, false, ◌&&◌, List, [], ◌∷◌, ◌++◌, ℕ, eqb}
 use Rattle.std.proofs.Common.{sym, ap, ◌∙◌}
-use Rattle.rules.specs.declared.Num.{Num}
-use Rattle.rules.specs.declared.Num.TheVariants as Num·
 use Rattle.rules.specs.Words.{pick}
 use Rattle.rules.specs.Slot.{TaskSet}
 use Rattle.rules.specs.Text.{return_byte, tab_byte, same, has}
@@ -42,9 +41,9 @@ field_begun (in_word (x ∷ xs)) b = picked (λ y. at_start y ≡ false) (eqb b 
 field_begun (in_time k v) b = picked (λ y. at_start y ≡ false) (eqb b tab_byte) _ _ (λ e. go (num_end (num_so_far k v)))
     (λ e. at (num_byte (num_so_far k v) b))
   where
-    go : (n : Num) → at_start (after_time n) ≡ false
-    go Num·.Bad = refl
-    go (Num·.Value v) = refl
+    go : (n : Option ℕ) → at_start (after_time n) ≡ false
+    go None = refl
+    go (Some v) = refl
 
     at : (x : NumScan) → at_start (time_at x) ≡ false
     at num_bad = refl
@@ -52,9 +51,9 @@ field_begun (in_time k v) b = picked (λ y. at_start y ≡ false) (eqb b tab_byt
 field_begun (in_task t low rises names set k v) b =
     picked (λ y. at_start y ≡ false) (eqb b tab_byte) _ _ (λ e. go (num_end (num_so_far k v))) (λ e. at (num_byte (num_so_far k v) b))
   where
-    go : (n : Num) → at_start (after_task t low rises names set n) ≡ false
-    go Num·.Bad = refl
-    go (Num·.Value v) = refl
+    go : (n : Option ℕ) → at_start (after_task t low rises names set n) ≡ false
+    go None = refl
+    go (Some v) = refl
 
     at : (x : NumScan) → at_start (task_at t low rises names set x) ≡ false
     at num_bad = refl

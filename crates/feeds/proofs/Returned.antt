@@ -1,13 +1,12 @@
 -- What is heard of a line at its newline, its return scanned with it (`scan_all` of LineScan), is what `slot_says` of rules, Log, says of
 -- what the line finder hands back. A return behind the fields changes nothing in what is heard; one anywhere else makes the line wrong. For
 -- Feed.
+use Rattle.std.specs.Prelude.{Option, Some, None}
 use Rattle.std.specs.Prelude.{◌≡◌, Bool, true, ◌&&◌, List, [], ◌∷◌, ◌++◌, ℕ, eqb}
 use Rattle.std.proofs.Math.Path.{refl, ap}
 use Rattle.std.proofs.Common.{sym, ◌∙◌, ne_eqb, eqb-true}
 use Rattle.std.proofs.Math.Bool.{false}
 use Rattle.std.proofs.lemmas.Bool.{eqb-false}
-use Rattle.rules.specs.declared.Num.{Num}
-use Rattle.rules.specs.declared.Num.TheVariants as Num·
 use Rattle.rules.specs.Words.{pick}
 use Rattle.rules.specs.Text.{newline_byte, return_byte, tab_byte, has, line_return, line_of}
 use Rattle.rules.specs.Log.{slot_word, slot_says}
@@ -43,9 +42,9 @@ reads_on wrong b h = tt
 reads_on (in_word ws) b h = reads_word ws b h
 reads_on (in_time k v) b h = picked Reads (eqb b tab_byte) _ _ (λ e. go (num_end (num_so_far k v))) (λ e. at (num_byte (num_so_far k v) b))
   where
-    go : (n : Num) → Reads (after_time n)
-    go Num·.Bad = tt
-    go (Num·.Value v) = tt
+    go : (n : Option ℕ) → Reads (after_time n)
+    go None = tt
+    go (Some v) = tt
 
     at : (x : NumScan) → Reads (time_at x)
     at num_bad = tt
@@ -53,9 +52,9 @@ reads_on (in_time k v) b h = picked Reads (eqb b tab_byte) _ _ (λ e. go (num_en
 reads_on (in_task t low rises names set k v) b h =
     picked Reads (eqb b tab_byte) _ _ (λ e. go (num_end (num_so_far k v))) (λ e. at (num_byte (num_so_far k v) b))
   where
-    go : (n : Num) → Reads (after_task t low rises names set n)
-    go Num·.Bad = tt
-    go (Num·.Value v) = tt
+    go : (n : Option ℕ) → Reads (after_task t low rises names set n)
+    go None = tt
+    go (Some v) = tt
 
     at : (x : NumScan) → Reads (task_at t low rises names set x)
     at num_bad = tt

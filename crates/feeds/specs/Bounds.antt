@@ -1,8 +1,7 @@
 -- The state of a log that is fed (Feed) does not grow: every number in it fits 32 bits, and the lines are counted no further than any time
 -- can name unless a fault was found. And from the end on the state of the run does not matter. For the code that keeps it.
+use Rattle.std.specs.Prelude.{ℕ, Option, Some, None}
 use Rattle.std.specs.Prelude.{◌≡◌, ◌^◌, ◌≤◌, ◌<◌, length}
-use Rattle.rules.specs.declared.Num.{Num}
-use Rattle.rules.specs.declared.Num.TheVariants as Num·
 use Rattle.feeds.specs.NumScan.{NumScan, num_bad, num_so_far}
 use Rattle.feeds.specs.LineScan.{LineScan, unread, wrong, in_word, in_time, in_task, returned}
 use Rattle.feeds.specs.LineScan.{Heard, heard_bad, heard}
@@ -13,9 +12,9 @@ abbrev pub NumSmall : NumScan → Type 0
 NumSmall num_bad = Unit {0}
 NumSmall (num_so_far k v) = (k ≤ 9) × (v < 10 ^ k)
 
-abbrev pub ValueSmall : Num → Type 0
-ValueSmall Num·.Bad = Unit {0}
-ValueSmall (Num·.Value v) = v < 10 ^ 9
+abbrev pub ValueSmall : Option ℕ → Type 0
+ValueSmall None = Unit {0}
+ValueSmall (Some v) = v < 10 ^ 9
 
 -- ---- lines
 abbrev pub LineSmall : LineScan → Type 0

@@ -1,10 +1,9 @@
 -- What is heard of the fields of a line, read byte by byte (LineScan), is what `slot_says` of rules, Log, says of them. For Returned.
+use Rattle.std.specs.Prelude.{Option, Some, None}
 use Rattle.std.specs.Prelude.{Bool, ◌&&◌, ℕ, suc}
 use Rattle.std.proofs.Math.Bool.{true}
 use mathlib.Core.List.{List, [], ◌∷◌}
 use Rattle.std.proofs.Math.Dec.{leb}
-use Rattle.rules.specs.declared.Num.{Num}
-use Rattle.rules.specs.declared.Num.TheVariants as Num·
 use Rattle.rules.specs.Slot.{TaskSet}
 use Rattle.rules.specs.Text.{number_in}
 use Rattle.rules.specs.Log.{set_named}
@@ -12,9 +11,9 @@ use Rattle.feeds.specs.LineScan.{is_name, with_name}
 use Rattle.feeds.specs.LineScan.{Heard, heard_bad, heard}
 
 -- ---- what numbers in fields are heard as
-abbrev pub with_heard : Num → (ℕ → Heard) → Heard
-with_heard Num·.Bad say = heard_bad
-with_heard (Num·.Value v) say = say v
+abbrev pub with_heard : Option ℕ → (ℕ → Heard) → Heard
+with_heard None say = heard_bad
+with_heard (Some v) say = say v
 
 unfoldable pub hear_numbers : List (List ℕ) → (List ℕ → Heard) → Heard
 hear_numbers [] say = say []

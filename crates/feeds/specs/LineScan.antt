@@ -1,9 +1,8 @@
 -- A line of a log read byte by byte, in a state that does not grow: what is left of the word, the time, and of the tasks the least number
 -- that would rise, whether they rise and are tasks, and their set; or what was heard before a return. At its end it has heard what
 -- `slot_says` of rules, Log, says: of its fields by LineHeard, with its return by Returned. For Feed.
+use Rattle.std.specs.Prelude.{Option, Some, None}
 use Rattle.std.specs.Prelude.{Bool, true, false, ◌&&◌, ◌||◌, List, [], ◌∷◌, ℕ, suc, eqb, leb, ltb}
-use Rattle.rules.specs.declared.Num.{Num}
-use Rattle.rules.specs.declared.Num.TheVariants as Num·
 use Rattle.rules.specs.Words.{pick}
 use Rattle.rules.specs.Limits.{max_tasks}
 use Rattle.rules.specs.Slot.{TaskSet}
@@ -48,13 +47,13 @@ task_at t low rises names set num_bad = wrong
 task_at t low rises names set (num_so_far k v) = in_task t low rises names set k v
 
 -- the time, or a task, is read: what comes after the tab behind it
-abbrev pub after_time : Num → LineScan
-after_time Num·.Bad = wrong
-after_time (Num·.Value t) = in_task t 0 true true (set_named []) 0 0
+abbrev pub after_time : Option ℕ → LineScan
+after_time None = wrong
+after_time (Some t) = in_task t 0 true true (set_named []) 0 0
 
-abbrev pub after_task : ℕ → ℕ → Bool → Bool → TaskSet → Num → LineScan
-after_task t low rises names set Num·.Bad = wrong
-after_task t low rises names set (Num·.Value v) = in_task t (suc v) (rises && leb low v) (names && is_name v) (with_name set v) 0 0
+abbrev pub after_task : ℕ → ℕ → Bool → Bool → TaskSet → Option ℕ → LineScan
+after_task t low rises names set None = wrong
+after_task t low rises names set (Some v) = in_task t (suc v) (rises && leb low v) (names && is_name v) (with_name set v) 0 0
 
 -- the word, of which ws is still to come: a tab, or another byte
 abbrev pub word_tab : List ℕ → LineScan
@@ -85,13 +84,13 @@ pub data Heard : Type 0 where
   heard_bad : Heard
   heard : ℕ → Bool → Bool → TaskSet → Heard
 
-abbrev pub heard_time : Num → Heard
-heard_time Num·.Bad = heard_bad
-heard_time (Num·.Value t) = heard t true true (set_named [])
+abbrev pub heard_time : Option ℕ → Heard
+heard_time None = heard_bad
+heard_time (Some t) = heard t true true (set_named [])
 
-abbrev pub heard_task : ℕ → ℕ → Bool → Bool → TaskSet → Num → Heard
-heard_task t low rises names set Num·.Bad = heard_bad
-heard_task t low rises names set (Num·.Value v) = heard t (rises && leb low v) (names && is_name v) (with_name set v)
+abbrev pub heard_task : ℕ → ℕ → Bool → Bool → TaskSet → Option ℕ → Heard
+heard_task t low rises names set None = heard_bad
+heard_task t low rises names set (Some v) = heard t (rises && leb low v) (names && is_name v) (with_name set v)
 
 unfoldable pub line_end : LineScan → Heard
 line_end unread = heard_bad

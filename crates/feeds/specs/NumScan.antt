@@ -1,5 +1,6 @@
 -- A number read byte by byte, in a state that does not grow: how many bytes it has and what they are worth, or bad. At the end of its
 -- field it says what `number_in` of rules, Text, says of the bytes. For LineScan.
+use Rattle.std.specs.Prelude.{Option, Some, None}
 use Rattle.std.specs.Prelude.{◌≡◌, Bool, true, ◌&&◌, not, List, [], ◌∷◌, ℕ, zero, suc, ◌+◌, ◌-◌, ◌*◌, ◌≤◌, eqb, leb, length}
 use Rattle.std.proofs.Math.Path.{refl}
 use Rattle.std.proofs.Common.{ap, ◌∙◌, arith, eq-eqb, ne_eqb, eqb-true, le-leb, leb-true}
@@ -9,8 +10,6 @@ use Rattle.std.proofs.lemmas.Bool.{eqb-false, lt-leb}
 use Rattle.rules.specs.Words.{pick}
 use Rattle.rules.specs.Text.{is_digit, all_digits, no_leading_zero, is_number, worth, number_in}
 use Rattle.lists.specs.Tests.{and_left}
-use Rattle.rules.specs.declared.Num.{Num}
-use Rattle.rules.specs.declared.Num.TheVariants.{Value, Bad}
 
 -- the bytes so far are no number, or they are so many and worth so much
 pub data NumScan : Type 0 where
@@ -34,10 +33,10 @@ abbrev pub num_start : NumScan
 num_start = num_so_far 0 0
 
 -- at the end of the field
-unfoldable pub num_end : NumScan → Num
-num_end num_bad = Bad
-num_end (num_so_far zero v) = Bad
-num_end (num_so_far (suc k) v) = Value v
+unfoldable pub num_end : NumScan → Option ℕ
+num_end num_bad = None
+num_end (num_so_far zero v) = None
+num_end (num_so_far (suc k) v) = Some v
 
 -- what is bad stays bad
 pub num_bad_lem : (s : List ℕ) → num_all num_bad s ≡ num_bad
@@ -45,13 +44,13 @@ unfolding num_all num_byte
 num_bad_lem [] = refl
 num_bad_lem (b ∷ s) = num_bad_lem s
 
-bad_ends : (s : List ℕ) → num_end (num_all num_bad s) ≡ Bad
+bad_ends : (s : List ℕ) → num_end (num_all num_bad s) ≡ None
 unfolding num_end
 bad_ends s = rw (num_bad_lem s)
 
 -- a number that has begun, and not with a 0 alone
 num_more : (s : List ℕ) (k v : ℕ) → suc k ≤ 9 → (eqb (suc k) 1 && eqb v 0) ≡ false
-    → num_end (num_all (num_so_far (suc k) v) s) ≡ pick (leb (suc k + length s) 9 && all_digits s) (Value (worth v s)) Bad
+    → num_end (num_all (num_so_far (suc k) v) s) ≡ pick (leb (suc k + length s) 9 && all_digits s) (Some (worth v s)) None
 unfolding num_all num_byte num_end all_digits worth
 num_more [] k v h e = let z : suc k + 0 ≡ suc k = omega arith in rw (z, le-leb (suc k) 9 h)
 num_more (b ∷ s) k v h e = rw e
@@ -63,9 +62,9 @@ num_more (b ∷ s) k v h e = rw e
 
     go : (d : Bool) → is_digit b ≡ d → Dec (suc k ≤ 8)
         → (suc (suc k) ≤ 9 → num_end (num_all (num_so_far (suc (suc k)) w) s) ≡ pick (leb (suc (suc k) + length s) 9 && all_digits s)
-        (Value (worth w s)) Bad)
+        (Some (worth w s)) None)
         → num_end (num_all (pick (d && leb (suc k) 8 && not false) (num_so_far (suc (suc k)) w) num_bad) s)
-        ≡ pick (leb (suc k + suc (length s)) 9 && (d && all_digits s)) (Value (worth w s)) Bad
+        ≡ pick (leb (suc k + suc (length s)) 9 && (d && all_digits s)) (Some (worth w s)) None
     go false q l ih = bad_ends s ∙ rw (and-false (leb (suc k + suc (length s)) 9))
     go true q (yes l) ih =
         let z : suc k + suc (length s) ≡ suc (suc k) + length s = omega arith in
@@ -80,7 +79,7 @@ num_scanned [] = refl
 num_scanned (b ∷ []) = go (is_digit b)
   where
     go : (d : Bool) → num_end (pick (d && true && true) (num_so_far 1 (0 * 10 + (b - 48))) num_bad)
-        ≡ pick (d && true) (Value (0 * 10 + (b - 48))) Bad
+        ≡ pick (d && true) (Some (0 * 10 + (b - 48))) None
     go true = unfold num_end in refl
     go false = unfold num_end in refl
 num_scanned (b ∷ (d ∷ s)) = rw (le-leb 1 (suc (suc (length s))) (omega arith)) (go (is_digit b) refl (eqb b 48) refl)
@@ -90,7 +89,7 @@ num_scanned (b ∷ (d ∷ s)) = rw (le-leb 1 (suc (suc (length s))) (omega arith
 
     go : (x : Bool) → is_digit b ≡ x → (y : Bool) → eqb b 48 ≡ y
         → num_end (num_all (pick (x && true && true) (num_so_far 1 v) num_bad) (d ∷ s))
-        ≡ pick (leb (suc (suc (length s))) 9 && not y && (x && all_digits (d ∷ s))) (Value (worth v (d ∷ s))) Bad
+        ≡ pick (leb (suc (suc (length s))) 9 && not y && (x && all_digits (d ∷ s))) (Some (worth v (d ∷ s))) None
     go false p y q = bad_ends (d ∷ s) ∙ rw (and-false (leb (suc (suc (length s))) 9 && not y))
     go true p true q =
         let z : eqb v 0 ≡ true = eq-eqb v 0 (omega (arith, eqb-true b 48 q)) in
@@ -100,10 +99,10 @@ num_scanned (b ∷ (d ∷ s)) = rw (le-leb 1 (suc (suc (length s))) (omega arith
         let z : eqb v 0 ≡ false = ne_eqb v 0 (λ e. eqb-false b 48 q (omega arith)) in
         let l : 1 + suc (length s) ≡ suc (suc (length s)) = omega arith in
         num_more (d ∷ s) 0 v (omega arith) (rw z)
-        ∙ ap (λ (n : ℕ). pick (leb n 9 && all_digits (d ∷ s)) (Value (worth v (d ∷ s))) Bad) l
+        ∙ ap (λ (n : ℕ). pick (leb n 9 && all_digits (d ∷ s)) (Some (worth v (d ∷ s))) None) l
         ∙ joins (leb (suc (suc (length s))) 9) (all_digits (d ∷ s))
       where
-        joins : (x y : Bool) → pick (x && y) (Value (worth v (d ∷ s))) Bad
-            ≡ pick (x && true && (true && y)) (Value (worth v (d ∷ s))) Bad
+        joins : (x y : Bool) → pick (x && y) (Some (worth v (d ∷ s))) None
+            ≡ pick (x && true && (true && y)) (Some (worth v (d ∷ s))) None
         joins true y = refl
         joins false y = refl

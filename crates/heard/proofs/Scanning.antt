@@ -1,6 +1,7 @@
 -- One byte more of a line: the steps of `field_byte`, `at_return` and `line_end` (feeds, LineScan) as the code takes them, and the set as
 -- it
 -- stands in an array.
+use Rattle.std.specs.Prelude.{Some, None}
 use mathlib.Core.Path.{◌≡◌, refl, sym, ap, ◌∙◌, fun_ext}
 use mathlib.Core.Bool.{Bool, true, false, ◌&&◌, or-true, or-false, and-false, true≢false}
 use mathlib.Core.List.{List, []}
@@ -14,7 +15,6 @@ use lib.ListN.{length, get_or, set, drop}
 use lib.Seq.{get_or-set_same}
 use borrow.Author.Rules.{read_below, read_above}
 use borrow.Author.Tests.{eq-eqb, ne_eqb, le-leb, lt-ltb, le-ltb, leb-true}
-use Rattle.rules.specs.declared.Num.TheVariants as Num·
 use Rattle.rules.specs.Words.{pick, tab}
 use Rattle.rules.specs.Limits.{max_tasks}
 use Rattle.rules.specs.Slot.{TaskSet}
@@ -87,12 +87,12 @@ pub name_bounds : (v : ℕ) → is_name v ≡ true → (1 ≤ v) × (v ≤ max_t
 name_bounds v e = (leb-true 1 v (and_left (leb 1 v) _ e), leb-true v max_tasks (and_right (leb 1 v) _ e))
 
 -- ---- numbers
-pub num_none : (k v : ℕ) → k ≡ 0 → num_end (num_so_far k v) ≡ Num·.Bad
+pub num_none : (k v : ℕ) → k ≡ 0 → num_end (num_so_far k v) ≡ None
 unfolding num_end
 num_none zero v e = refl
 num_none (suc k) v e = absurd (omega arith)
 
-pub num_some : (k v : ℕ) → (k ≡ 0 → ⊥) → num_end (num_so_far k v) ≡ Num·.Value v
+pub num_some : (k v : ℕ) → (k ≡ 0 → ⊥) → num_end (num_so_far k v) ≡ Some v
 unfolding num_end
 num_some zero v h = absurd (h refl)
 num_some (suc k) v h = refl

@@ -1,4 +1,5 @@
 -- The kind that a word opens is the kind of what its fields say, unless that is badly formed.
+use Rattle.std.specs.Prelude.{Option, Some, None}
 use mathlib.Core.Path.{◌≡◌, refl, sym, ap, ap₂, ◌∙◌}
 use mathlib.Core.Bool.{true, false}
 use mathlib.Core.List.{List, ◌∷◌, ◌++◌}
@@ -8,8 +9,6 @@ use lib.Dec.{eqb}
 use lib.ListN.{length, get_or, take, drop, take-append-drop, length-append}
 use lib.Seq.{drop-cons}
 use borrow.Author.Tests.{eqb-true}
-use Rattle.rules.specs.declared.Num.{Num}
-use Rattle.rules.specs.declared.Num.TheVariants as Num·
 use Rattle.rules.specs.declared.Line.{Line}
 use Rattle.rules.specs.declared.Line.TheVariants.{Bad, Procs, Policy, Row, End, Release}
 use Rattle.rules.specs.Text.{tab_byte, same, has, up_to, past, number_in, field_of, after_field, release_word}
@@ -22,9 +21,9 @@ use Rattle.kinds.specs.Says.{Opens, StartsRelease}
 bad_opens : (k : ℕ) → Opens k Bad
 bad_opens k h = absurd (h refl)
 
-number_opens : (k : ℕ) (n : Num) (say : ℕ → Line) → ((a : ℕ) → Opens k (say a)) → Opens k (with_number n say)
-number_opens k (Num·.Value v) say h = h v
-number_opens k Num·.Bad say h = bad_opens k
+number_opens : (k : ℕ) (n : Option ℕ) (say : ℕ → Line) → ((a : ℕ) → Opens k (say a)) → Opens k (with_number n say)
+number_opens k (Some v) say h = h v
+number_opens k None say h = bad_opens k
 
 one-opens : (k : ℕ) (s : List ℕ) (say : ℕ → Line) → ((a : ℕ) → Opens k (say a)) → Opens k (one_number s say)
 unfolding one_number

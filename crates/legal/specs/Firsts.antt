@@ -2,11 +2,12 @@
 -- Refusals).
 -- A row is proved here once for any list of tests. Cited by Passing, Legal and the proofs of every call's checks.
 use Rattle.std.specs.Prelude.{◌≡◌, refl, Bool, true, false, ◌⊎◌, List, [], ◌∷◌, ◌++◌, ℕ, zero, suc, ◌+◌, ◌-◌, ◌<◌, eqb}
-use Rattle.std.proofs.Common.{ap, ap₂, sym, ◌∙◌, inl, inr, eq-or-lt_of_le, add-one, arith, eqb-true, eq-eqb, ne_eqb}
+use Rattle.std.specs.Prelude.{Result, Ok, Err}
+use Rattle.std.proofs.Common.{ap, ap₂, sym, ◌∙◌, inl, inr, eq-or-lt_of_le, add-one, add-zero, arith, eqb-true, eq-eqb, ne_eqb}
 use Rattle.std.proofs.lemmas.Bool.{eqb-false}
 use Rattle.rules.specs.declared.Fault.{Fault}
 use Rattle.rules.specs.Words.{pick}
-use Rattle.rules.specs.Refusals.{no_fault, unless, or_next, first, first_of}
+use Rattle.rules.specs.Refusals.{fault_of, no_fault, unless_fault, checked, unless, or_next, first, first_of}
 
 -- ---- one test
 pub unless_clear : (b : Bool) (n p : ℕ) → 0 < n → (unless b n p).number ≡ 0 → b ≡ true
@@ -133,3 +134,96 @@ pub first_hit : (f : ℕ → Fault) (i n : ℕ) → i < n → first_of f i ≡ n
 first_hit f i n l a x h e =
     let z : suc (i + (n - suc i)) ≡ n = omega arith in
     sym (rw z at (first_from f i (n - suc i) a (λ q. h (ap (λ (u : Fault). u.number) (sym e) ∙ q))) ∙ e)
+
+-- ---- what a check answers (rules, Refusals, `checked`): nothing is at fault, or the fault that it found
+ok_or_err : (x : Fault) → ◌≡◌ {A = Result (Unit {0}) Fault} (Ok tt) (Err x) → ⊥
+ok_or_err x e = cc
+
+pub checked_clear : (f : Fault) → f.number ≡ 0 → checked f ≡ Ok tt
+checked_clear f e = rw (eq-eqb f.number 0 e)
+
+-- a refusal unless a test holds
+pub refused : (b : Bool) (n p : ℕ) → 0 < n → pick b (Ok tt) (Err (fault_of n p)) ≡ checked (unless b n p)
+refused true n p h = refl
+refused false n p h = rw (ne_eqb n 0 (λ e. omega arith))
+
+pub clear_checked : (f : Fault) → checked f ≡ Ok tt → f.number ≡ 0
+clear_checked f = go (eqb f.number 0) refl
+  where
+    go : (b : Bool) → eqb f.number 0 ≡ b → ◌≡◌ {A = Result (Unit {0}) Fault} (pick b (Ok tt) (Err f)) (Ok tt) → f.number ≡ 0
+    go true q e = eqb-true _ _ q
+    go false q e = absurd (ok_or_err f (sym e))
+
+-- what is answered beside a check: x where it finds nothing, and its fault where it finds one
+pub clear_gives : {A : Type 0} (f : Fault) (x : A) → checked f ≡ Ok tt → unless_fault f x ≡ Ok x
+clear_gives f x e = rw (eq-eqb f.number 0 (clear_checked f e))
+
+pub fault_gives : {A : Type 0} (f g : Fault) (x : A) → checked f ≡ Err g → unless_fault f x ≡ Err g
+fault_gives {A = A} f g x = go (eqb f.number 0)
+  where
+    go : (b : Bool) → ◌≡◌ {A = Result (Unit {0}) Fault} (pick b (Ok tt) (Err f)) (Err g)
+        → ◌≡◌ {A = Result A Fault} (pick b (Ok x) (Err f)) (Err g)
+    go true q = absurd (ok_or_err g q)
+    go false q = cc
+
+-- and back
+pub given_clear : {A : Type 0} (f : Fault) (x y : A) → unless_fault f x ≡ Ok y → (checked f ≡ Ok tt) × (x ≡ y)
+given_clear {A = A} f x y = go (eqb f.number 0)
+  where
+    go : (b : Bool) → ◌≡◌ {A = Result A Fault} (pick b (Ok x) (Err f)) (Ok y)
+        → (◌≡◌ {A = Result (Unit {0}) Fault} (pick b (Ok tt) (Err f)) (Ok tt)) × (x ≡ y)
+    go true q = (refl, cc)
+    go false q = absurd cc
+
+pub given_fault : {A : Type 0} (f g : Fault) (x : A) → unless_fault f x ≡ Err g → checked f ≡ Err g
+given_fault {A = A} f g x = go (eqb f.number 0)
+  where
+    go : (b : Bool) → ◌≡◌ {A = Result A Fault} (pick b (Ok x) (Err f)) (Err g)
+        → ◌≡◌ {A = Result (Unit {0}) Fault} (pick b (Ok tt) (Err f)) (Err g)
+    go true q = absurd cc
+    go false q = cc
+
+-- a row of which the first test finds nothing is the rest of it, and one of which it finds a fault is that fault
+pub checked_next : (f g : Fault) → checked f ≡ Ok tt → checked (or_next f g) ≡ checked g
+checked_next f g e = ap checked (next_none f g (clear_checked f e))
+
+pub checked_stop : (f g x : Fault) → checked f ≡ Err x → checked (or_next f g) ≡ Err x
+checked_stop f g x = go (eqb f.number 0) refl
+  where
+    go : (b : Bool) → eqb f.number 0 ≡ b → ◌≡◌ {A = Result (Unit {0}) Fault} (pick b (Ok tt) (Err f)) (Err x)
+        → checked (or_next f g) ≡ Err x
+    go true q e = absurd (ok_or_err x e)
+    go false q e = ap checked (next_some f g (eqb-false _ _ q)) ∙ rw q e
+
+-- a row of one test
+pub checked_one : (f : Fault) → checked (or_next f no_fault) ≡ checked f
+unfolding or_next
+checked_one f = go (eqb f.number 0) refl
+  where
+    go : (b : Bool) → eqb f.number 0 ≡ b → checked (pick b no_fault f) ≡ checked f
+    go true q = sym (checked_clear f (eqb-true _ _ q))
+    go false q = refl
+
+-- many tests, one after the other: those so far find nothing, and with one more too; or it finds a fault, which is then that of them all
+pub many_more : (f : ℕ → Fault) (i : ℕ) → (first_of f i).number ≡ 0 → checked (f i) ≡ Ok tt → (first_of f (i + 1)).number ≡ 0
+many_more f i a e = rw (first_more f i, next_none (first_of f i) (f i) a) (clear_checked (f i) e)
+
+pub many_stop : (f : ℕ → Fault) (i n : ℕ) → i < n → (first_of f i).number ≡ 0 → (x : Fault) → checked (f i) ≡ Err x
+    → checked (first_of f n) ≡ Err x
+unfolding first_of
+many_stop f i n l a x e =
+    let z : i + (n - suc i) + 1 ≡ n = omega arith in
+    rw z at (from (n - suc i))
+  where
+    from : (d : ℕ) → checked (first_of f (i + d + 1)) ≡ Err x
+    from zero = rw (add-zero, first_more f i, checked_next (first_of f i) (f i) (checked_clear (first_of f i) a)) e
+    from (suc d) =
+        let y : i + suc d ≡ i + d + 1 = omega arith in
+        rw (y, first_more f (i + d + 1)) (checked_stop (first_of f (i + d + 1)) (f (i + d + 1)) x (from d))
+
+-- for the proofs of the checks: what they answer row by row, what is answered beside them, and many tests one after the other
+pub ruleset rows = (checked_next, checked_stop, checked_one)
+
+pub ruleset gives = (clear_gives, fault_gives, given_clear, given_fault)
+
+pub ruleset many = (none_yet, many_more, many_stop)

@@ -1,25 +1,17 @@
 -- How a call settles: laws of `settled` and `kept` (rules, Answers). A refusal gives number and place and leaves its room; and an answer
 -- in document 01's numbers is that of one case of its enum alone. For Decided and the proofs of the calls on numbers.
-use Rattle.std.specs.Prelude.{◌≡◌, refl, Bool, true, false, List, [], ℕ, eqb}
+use Rattle.std.specs.Prelude.{◌≡◌, refl, Bool, true, false, List, [], ℕ, eqb, get_or}
 use Rattle.std.proofs.Common.{ap, sym, ◌∙◌}
 use Rattle.std.proofs.lemmas.Bool.{false≢true}
 use borrow.Author.Tests.{eqb-true, eq-eqb, ne_eqb}
+use Rattle.std.specs.Prelude.{Result, Ok, Err}
 use Rattle.rules.specs.declared.Fault.{Fault}
-use Rattle.rules.specs.declared.Counted.{Counted}
-use Rattle.rules.specs.declared.Counted.TheVariants as Counted·
-use Rattle.rules.specs.declared.Replayed.{Replayed}
-use Rattle.rules.specs.declared.Replayed.TheVariants as Replayed·
-use Rattle.rules.specs.declared.Running.{Running}
-use Rattle.rules.specs.declared.Running.TheVariants as Running·
+use Rattle.rules.specs.declared.Totals.{Totals}
 use Rattle.rules.specs.declared.Taken.{Taken}
-use Rattle.rules.specs.declared.Taken.TheVariants as Taken·
-use Rattle.rules.specs.declared.Written.{Written}
-use Rattle.rules.specs.declared.Written.TheVariants as Written·
-use Rattle.rules.specs.declared.Logged.{Logged}
-use Rattle.rules.specs.declared.Logged.TheVariants as Logged·
 use Rattle.rules.specs.Words.{pick}
-use Rattle.rules.specs.Answers.{Answer, refusal, result, settled, kept, counted_as, replayed_as, running_as, taken_as, written_as}
-use Rattle.rules.specs.Answers.{logged_as}
+use Rattle.rules.specs.Refusals.{fault_of, no_fault}
+use Rattle.rules.specs.Answers.{Answer, refusal, result, settled, kept, answer_as, counted_as, replayed_as, running_as, taken_as}
+use Rattle.rules.specs.Answers.{written_as, logged_as, total_values, taken_values}
 
 -- ---- x is what the checks found: a fault, or none
 module _ (x f : Fault) (e : x ≡ f) where
@@ -58,6 +50,10 @@ abbrev pub values_of : Answer → List ℕ
 values_of (refusal n p) = []
 values_of (result vs) = vs
 
+abbrev fault_in : Answer → Fault
+fault_in (refusal n p) = fault_of n p
+fault_in (result vs) = no_fault
+
 pub no_refusal : (n p : ℕ) (vs : List ℕ) → refusal n p ≡ result vs → ⊥
 no_refusal n p vs e = false≢true (ap is_result e)
 
@@ -73,39 +69,41 @@ settled_result f vs ws = go (eqb f.number 0) refl
 pub result_clear : (f : Fault) (vs ws : List ℕ) → settled f vs ≡ result ws → f.number ≡ 0
 result_clear f vs ws e = (settled_result f vs ws e).0
 
--- ---- an answer in the document's numbers is that of one case alone
-pub counted_once : (x y : Counted) → counted_as x ≡ counted_as y → x ≡ y
-counted_once (Counted·.Refused n p) (Counted·.Refused k q) e = cc
-counted_once (Counted·.Refused n p) (Counted·.Counts a) e = cc
-counted_once (Counted·.Counts a) (Counted·.Refused n p) e = cc
-counted_once (Counted·.Counts a) (Counted·.Counts b) e = cc
+-- ---- an answer in the document's numbers is that of one case alone, if one list of values is that of one result alone
+answered_once : {A : Type 0} (values : A → List ℕ) → ((a b : A) → values a ≡ values b → a ≡ b)
+    → (x y : Result A Fault) → answer_as values x ≡ answer_as values y → x ≡ y
+answered_once values once (Ok a) (Ok b) e = ap Ok (once a b (ap values_of e))
+answered_once values once (Ok a) (Err f) e = absurd (no_refusal _ _ _ (sym e))
+answered_once values once (Err f) (Ok b) e = absurd (no_refusal _ _ _ e)
+answered_once values once (Err f) (Err g) e = ap Err (ap fault_in e)
 
-pub replayed_once : (x y : Replayed) → replayed_as x ≡ replayed_as y → x ≡ y
-replayed_once (Replayed·.Refused n p) (Replayed·.Refused k q) e = cc
-replayed_once (Replayed·.Refused n p) (Replayed·.Judged a b d) e = cc
-replayed_once (Replayed·.Judged a b d) (Replayed·.Refused n p) e = cc
-replayed_once (Replayed·.Judged a b d) (Replayed·.Judged u v w) e = cc
+pub counted_once : (x y : Result ℕ Fault) → counted_as x ≡ counted_as y → x ≡ y
+counted_once = answered_once _ (λ a b e. cc)
 
-pub running_once : (x y : Running) → running_as x ≡ running_as y → x ≡ y
-running_once (Running·.Refused n p) (Running·.Refused k q) e = cc
-running_once (Running·.Refused n p) (Running·.Ran a) e = cc
-running_once (Running·.Ran a) (Running·.Refused n p) e = cc
-running_once (Running·.Ran a) (Running·.Ran b) e = cc
+abbrev totals_in : List ℕ → Totals
+totals_in vs = record { met = get_or vs 0 0; missed = get_or vs 1 0; «open» = get_or vs 2 0 }
 
-pub taken_once : (x y : Taken) → taken_as x ≡ taken_as y → x ≡ y
-taken_once (Taken·.Refused n p) (Taken·.Refused k q) e = cc
-taken_once (Taken·.Refused n p) (Taken·.Read a b d f g) e = cc
-taken_once (Taken·.Read a b d f g) (Taken·.Refused n p) e = cc
-taken_once (Taken·.Read a b d f g) (Taken·.Read t u v w x) e = cc
+pub replayed_once : (x y : Result Totals Fault) → replayed_as x ≡ replayed_as y → x ≡ y
+replayed_once = answered_once total_values (λ a b e. ap totals_in e)
 
-pub written_once : (x y : Written) → written_as x ≡ written_as y → x ≡ y
-written_once (Written·.Refused n p) (Written·.Refused k q) e = cc
-written_once (Written·.Refused n p) (Written·.Text a) e = cc
-written_once (Written·.Text a) (Written·.Refused n p) e = cc
-written_once (Written·.Text a) (Written·.Text b) e = cc
+pub running_once : (x y : Result ℕ Fault) → running_as x ≡ running_as y → x ≡ y
+running_once = answered_once _ (λ a b e. cc)
 
-pub logged_once : (x y : Logged) → logged_as x ≡ logged_as y → x ≡ y
-logged_once (Logged·.Refused n p) (Logged·.Refused k q) e = cc
-logged_once (Logged·.Refused n p) Logged·.Accepted e = cc
-logged_once Logged·.Accepted (Logged·.Refused n p) e = cc
-logged_once Logged·.Accepted Logged·.Accepted e = refl
+abbrev taken_in : List ℕ → Taken
+taken_in vs =
+    record {
+      procs = get_or vs 0 0;
+      policy = get_or vs 1 0;
+      end = get_or vs 2 0;
+      tasks = get_or vs 3 0;
+      releases = get_or vs 4 0;
+    }
+
+pub taken_once : (x y : Result Taken Fault) → taken_as x ≡ taken_as y → x ≡ y
+taken_once = answered_once taken_values (λ a b e. ap taken_in e)
+
+pub written_once : (x y : Result ℕ Fault) → written_as x ≡ written_as y → x ≡ y
+written_once = answered_once _ (λ a b e. cc)
+
+pub logged_once : (x y : Result (Unit {0}) Fault) → logged_as x ≡ logged_as y → x ≡ y
+logged_once = answered_once _ (λ a b e. refl)

@@ -6,7 +6,6 @@ ghost use Rattle.rules.specs.Policies.{max_policy, policy_name, policy_of, demot
 ghost use Rattle.puts.specs.Laid.{Laid};
 
 use puts::put_bytes;
-use rules::Num;
 use words::same_bytes;
 
 // Their numbers.
@@ -28,23 +27,20 @@ pub fn is_policy(p: u32) -> bool
 pub fn is_demoting(policy: u32) -> bool
     ensures { result ≡ demoting policy }
 {
-    match policy {
-        EDF_CF => true,
-        _ => false,
-    }
+    matches!(policy, EDF_CF)
 }
 
-// The policy that a word names.
-pub fn policy_of(s: &[u8]) -> Num
+// The policy that a word names, where it names one.
+pub fn policy_of(s: &[u8]) -> Option<u32>
     ensures { result ≡ policy_of s.now }
 {
     if same_bytes(s, b"edf") {
-        return Num::Value { value: EDF };
+        return Some(EDF);
     }
     if same_bytes(s, b"edf-cf") {
-        return Num::Value { value: EDF_CF };
+        return Some(EDF_CF);
     }
-    Num::Bad
+    None
 }
 
 // Writes the byte `between` and the word of a policy, chosen by its number; a number that is no policy has none.

@@ -2,7 +2,6 @@
 use Rattle.std.specs.Prelude.{◌≡◌, List, ℕ, ◌≤◌, length}
 use Rattle.std.proofs.Common.{sym, ap, ap₂, ◌∙◌, subst}
 use Rattle.rules.specs.declared.Taken.{Taken}
-use Rattle.rules.specs.declared.Written.{Written}
 use Rattle.rules.specs.Limits.{max_text}
 use Rattle.rules.specs.Answers.{result, taken_as}
 use Rattle.rules.specs.Calls.{ReadPromise, WritePromise}
@@ -14,6 +13,8 @@ use Rattle.texts.specs.Passing.{read_clear}
 use Rattle.roundtrip.specs.CaseLines.{text_fits}
 use Rattle.roundtrip.specs.RoundTrip.{with_policy, text_read, case_accepted}
 use Rattle.roundtrip.specs.CallTrip.{in_hand, WrittenAs, read_as, written_as_lem, write_clear, Wrote}
+use Rattle.std.specs.Prelude.{Result}
+use Rattle.rules.specs.declared.Fault.{Fault}
 
 -- what a text with its policy line and without its returns takes up: a room of 60,000 bytes is always enough
 pub with_policy-fits : (s : List ℕ) → (text_fault s).number ≡ 0 → length (with_policy (without_returns s)) ≤ max_text
@@ -36,7 +37,7 @@ write_read s tasks releases vs room h p =
     p))))
 
 -- writing what was read gives the text with its policy line where it was absent and without its returns
-pub written_what_was_read : (s tasks releases : List ℕ) (r : Taken) (ts rs vs bytes : List ℕ) (w : Written) (later : List ℕ)
+pub written_what_was_read : (s tasks releases : List ℕ) (r : Result Taken Fault) (ts rs vs bytes : List ℕ) (w : Result ℕ Fault) (later : List ℕ)
     → ReadPromise s tasks releases r ts rs
     → taken_as r ≡ result vs
     → length (with_policy (without_returns s)) ≤ length bytes

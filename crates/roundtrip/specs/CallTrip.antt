@@ -4,7 +4,6 @@
 use Rattle.std.specs.Prelude.{◌≡◌, List, [], ◌∷◌, ◌++◌, ℕ, ◌*◌, ◌≤◌, length, get_or, take, drop}
 use Rattle.std.proofs.Common.{sym, ap, ap₂, ◌∙◌, subst, arith}
 use Rattle.rules.specs.declared.Taken.{Taken}
-use Rattle.rules.specs.declared.Written.{Written}
 use Rattle.rules.specs.Limits.{max_tasks, max_releases, task_width, release_width}
 use Rattle.rules.specs.Case.{Case, case_of, task_count, release_count}
 use Rattle.rules.specs.Refusals.{room_fault, case_fault, Accepted}
@@ -17,6 +16,8 @@ use Rattle.legal.specs.Legal.{next_clear, Legal, legal}
 use Rattle.legal.specs.Settled.{settled_clear, kept_new, settled_result}
 use Rattle.texts.specs.Passing.{row_passes, room_passes, read_roomy}
 use Rattle.roundtrip.specs.RoundTrip.{case_written, no_fault-written}
+use Rattle.std.specs.Prelude.{Result}
+use Rattle.rules.specs.declared.Fault.{Fault}
 
 -- ---- the case that a caller has in hand after reading: the values of the answer, and as many numbers of the two rooms
 unfoldable pub in_hand : List ℕ → List ℕ → List ℕ → Case
@@ -87,19 +88,19 @@ read_written c room n tasks releases h p q =
 
 -- ---- both calls: any answers that keep their promises
 -- the reader said that it read the case c, and its rooms hold it
-pub record Read (c : Case) (tasks releases : List ℕ) (r : Taken) (tasks-later releases-later : List ℕ) : Type 0 where
+pub record Read (c : Case) (tasks releases : List ℕ) (r : Result Taken Fault) (tasks-later releases-later : List ℕ) : Type 0 where
   pub answer : taken_as r ≡ result (case_values c)
   pub tasks_after : tasks-later ≡ c.table ++ drop (length c.table) tasks
   pub releases-after : releases-later ≡ c.trace ++ drop (length c.trace) releases
   pub in_hand_lem : in_hand (case_values c) tasks-later releases-later ≡ c
 
 -- the writer said how long the text s is, and its bytes begin with it
-pub record Wrote (s bytes : List ℕ) (w : Written) (later : List ℕ) : Type 0 where
+pub record Wrote (s bytes : List ℕ) (w : Result ℕ Fault) (later : List ℕ) : Type 0 where
   pub answer : written_as w ≡ result (length s ∷ [])
   pub bytes_after : later ≡ s ++ drop (length s) bytes
 
 -- reading what the writer wrote gives the same case
-pub read_what_was_written : (c : Case) (bytes : List ℕ) (w : Written) (later : List ℕ) (n : ℕ) (tasks releases : List ℕ) (r : Taken)
+pub read_what_was_written : (c : Case) (bytes : List ℕ) (w : Result ℕ Fault) (later : List ℕ) (n : ℕ) (tasks releases : List ℕ) (r : Result Taken Fault)
     (ts rs : List ℕ)
     → WritePromise c bytes w later
     → written_as w ≡ result (n ∷ [])

@@ -1,5 +1,6 @@
 -- The reader cannot meet 14 (document 01, "Refusals by number"): the policy of a text is one of the policies, whatever its bytes are. It is
 -- so of each line that `line_says` reads, and so of the case that `case_in` makes of them.
+use Rattle.std.specs.Prelude.{Option, Some, None}
 use Rattle.std.specs.Prelude.{ℕ, zero, suc, ◌≤◌, ◌≡◌, Bool, true, false, List, [], ◌∷◌, eqb, length}
 use Rattle.std.proofs.Common.{arith}
 use Rattle.rules.specs.Words.{pick}
@@ -11,8 +12,6 @@ use Rattle.rules.specs.Reader.{with_number, one_number, two_numbers, three_numbe
 use Rattle.rules.specs.Reader.{policy_when_absent, no_case, with_line, with_lines, case_with_default, case_in}
 use Rattle.legal.specs.Passing.{policy_none}
 use Rattle.texts.specs.PolicyNames.{name_read}
-use Rattle.rules.specs.declared.Num.{Num}
-use Rattle.rules.specs.declared.Num.TheVariants as Num·
 use Rattle.rules.specs.declared.Line.{Line}
 use Rattle.rules.specs.declared.Line.TheVariants.{Bad, Procs, Policy, Row, End, Release}
 
@@ -30,10 +29,10 @@ either_known : (b : Bool) (x y : Line) → policy_is x ≤ max_policy → policy
 either_known true x y p q = p
 either_known false x y p q = q
 
-number_known : (n : Num) (say : ℕ → Line) → ((a : ℕ) → policy_is (say a) ≤ max_policy)
+number_known : (n : Option ℕ) (say : ℕ → Line) → ((a : ℕ) → policy_is (say a) ≤ max_policy)
     → policy_is (with_number n say) ≤ max_policy
-number_known (Num·.Value v) say h = h v
-number_known Num·.Bad say h = omega arith
+number_known (Some v) say h = h v
+number_known None say h = omega arith
 
 one_known : (s : List ℕ) (say : ℕ → Line) → ((a : ℕ) → policy_is (say a) ≤ max_policy)
     → policy_is (one_number s say) ≤ max_policy

@@ -14,12 +14,10 @@ use Rattle.rules.specs.Reader.{read_answer, read_tasks, read_releases}
 use Rattle.rules.specs.Writer.{write_answer, write_bytes}
 use Rattle.rules.specs.Convert.{convert_answer, convert_bytes}
 use Rattle.rules.specs.Log.{log_answer}
-use Rattle.rules.specs.declared.Counted.{Counted}
-use Rattle.rules.specs.declared.Replayed.{Replayed}
-use Rattle.rules.specs.declared.Running.{Running}
 use Rattle.rules.specs.declared.Taken.{Taken}
-use Rattle.rules.specs.declared.Written.{Written}
-use Rattle.rules.specs.declared.Logged.{Logged}
+use Rattle.rules.specs.declared.Totals.{Totals}
+use Rattle.std.specs.Prelude.{Result}
+use Rattle.rules.specs.declared.Fault.{Fault}
 
 -- ---- the counts: the number of tasks, and one number a task; numbers after them stay
 unfoldable pub counts_answer : ℕ → List ℕ → List ℕ → Answer
@@ -43,31 +41,31 @@ unfoldable pub running_answer : Case → ℕ → Answer
 running_answer c s = settled (running_fault c s) (running_set c s ∷ [])
 
 -- ---- the promises: of what was lent, what a call answers and what every lent slice holds afterwards
-pub record CountsPromise (m : ℕ) (ts room : List ℕ) (r : Counted) (later : List ℕ) : Type 0 where
+pub record CountsPromise (m : ℕ) (ts room : List ℕ) (r : Result ℕ Fault) (later : List ℕ) : Type 0 where
   pub answer : counted_as r ≡ counts_answer m ts room
   pub left : later ≡ counts_room m ts room
 
-pub record ReplayPromise (c : Case) (room : List ℕ) (r : Replayed) (later : List ℕ) : Type 0 where
+pub record ReplayPromise (c : Case) (room : List ℕ) (r : Result Totals Fault) (later : List ℕ) : Type 0 where
   pub answer : replayed_as r ≡ replay_answer c room
   pub left : later ≡ replay_room c room
 
 -- the running set is lent nothing to write into
-pub record RunningPromise (c : Case) (s : ℕ) (r : Running) : Type 0 where
+pub record RunningPromise (c : Case) (s : ℕ) (r : Result ℕ Fault) : Type 0 where
   pub answer : running_as r ≡ running_answer c s
 
-pub record ReadPromise (text tasks releases : List ℕ) (r : Taken) (tasks-later releases-later : List ℕ) : Type 0 where
+pub record ReadPromise (text tasks releases : List ℕ) (r : Result Taken Fault) (tasks-later releases-later : List ℕ) : Type 0 where
   pub answer : taken_as r ≡ read_answer text tasks releases
   pub left_tasks : tasks-later ≡ read_tasks text tasks releases
   pub left_releases : releases-later ≡ read_releases text tasks releases
 
-pub record WritePromise (c : Case) (bytes : List ℕ) (r : Written) (later : List ℕ) : Type 0 where
+pub record WritePromise (c : Case) (bytes : List ℕ) (r : Result ℕ Fault) (later : List ℕ) : Type 0 where
   pub answer : written_as r ≡ write_answer c bytes
   pub left : later ≡ write_bytes c bytes
 
-pub record ConvertPromise (text bytes : List ℕ) (r : Written) (later : List ℕ) : Type 0 where
+pub record ConvertPromise (text bytes : List ℕ) (r : Result ℕ Fault) (later : List ℕ) : Type 0 where
   pub answer : written_as r ≡ convert_answer text bytes
   pub left : later ≡ convert_bytes text bytes
 
 -- the log check is lent nothing to write into
-pub record LogPromise (c : Case) (log : List ℕ) (r : Logged) : Type 0 where
+pub record LogPromise (c : Case) (log : List ℕ) (r : Result (Unit {0}) Fault) : Type 0 where
   pub answer : logged_as r ≡ log_answer c log

@@ -1,5 +1,6 @@
 -- A vendor's slot log (request P2): what a line says, when the set that it names keeps the rule of a slot, the state that follows the log,
 -- the refusals 17 to 19 line by line, the answer of the log check, and our own log as bytes. Acceptance has no further result.
+use Rattle.std.specs.Prelude.{Option, Some, None}
 use Rattle.std.specs.Prelude.{ℕ, zero, suc, min, ◌≡◌, Bool, true, false, ◌&&◌, ◌||◌, not, List, [], ◌∷◌, map, eqb, ltb, leb, length, get_or}
 use Rattle.rules.specs.Words.{pick, count_in, holds_below, tab}
 use Rattle.rules.specs.Limits.{max_tasks}
@@ -11,8 +12,6 @@ use Rattle.rules.specs.Answers.{Answer, settled}
 use Rattle.rules.specs.Text.{tab_byte, same, has, lines_by, field_of, after_field, number_in, digits_of}
 use Rattle.rules.specs.Writer.{joined_text, line_text}
 use Rattle.rules.specs.declared.Fault.{Fault}
-use Rattle.rules.specs.declared.Num.{Num}
-use Rattle.rules.specs.declared.Num.TheVariants as Num·
 use Rattle.rules.specs.declared.Job.{Job}
 use Rattle.rules.specs.declared.Run.{Run}
 
@@ -34,9 +33,9 @@ unfoldable pub fields_of : List ℕ → List (List ℕ)
 fields_of s = fields_in (length s) s
 
 -- a field that is a number, handed on; a line with one that is not is badly formed
-abbrev pub with_value : Num → (ℕ → LogLine) → LogLine
-with_value (Num·.Value v) say = say v
-with_value Num·.Bad say = bad_line
+abbrev pub with_value : Option ℕ → (ℕ → LogLine) → LogLine
+with_value (Some v) say = say v
+with_value None say = bad_line
 
 -- every field a number
 unfoldable pub with_numbers : List (List ℕ) → (List ℕ → LogLine) → LogLine

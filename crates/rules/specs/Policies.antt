@@ -1,11 +1,10 @@
 -- The policies (document 01, "The model": policy 0 is EDF, policy 1 is EDF-CF; "What happens at time t" and "The case text"): their
 -- numbers, their words, which of them demote and where the free count of each comes from. Nothing else tells one policy from another.
+use Rattle.std.specs.Prelude.{Option, Some, None}
 use Rattle.std.specs.Prelude.{ℕ, suc, Bool, List, [], ◌∷◌, eqb, get_or}
 use Rattle.rules.specs.Words.{pick}
 use Rattle.rules.specs.Counts.{free_count}
 use Rattle.rules.specs.Text.{same}
-use Rattle.rules.specs.declared.Num.{Num}
-use Rattle.rules.specs.declared.Num.TheVariants.{Value, Bad}
 
 -- ---- numbers: policy 0 is EDF, policy 1 is EDF-CF
 abbrev pub edf : ℕ
@@ -34,12 +33,12 @@ unfoldable pub policy_name : ℕ → List ℕ
 policy_name p = get_or policy_words p []
 
 -- the place of a word among words, the first of which is at n
-unfoldable pub place_from : ℕ → List (List ℕ) → List ℕ → Num
-place_from n [] s = Bad
-place_from n (w ∷ ws) s = pick (same s w) (Value n) (place_from (suc n) ws s)
+unfoldable pub place_from : ℕ → List (List ℕ) → List ℕ → Option ℕ
+place_from n [] s = None
+place_from n (w ∷ ws) s = pick (same s w) (Some n) (place_from (suc n) ws s)
 
 -- the policy that a word names: its place among the words
-unfoldable pub policy_of : List ℕ → Num
+unfoldable pub policy_of : List ℕ → Option ℕ
 policy_of s = place_from 0 policy_words s
 
 -- ---- what a policy does

@@ -1,5 +1,6 @@
 -- The reader (document 01, "The case text"): what each line says, the order of lines, the case of a text; and from "Refusals by number"
 -- the refusals 1 to 3, their order, and the reader's whole answer with what its two lent rooms hold at exit.
+use Rattle.std.specs.Prelude.{Option, Some, None}
 use Rattle.std.specs.Prelude.{ℕ, suc, ◌*◌, List, [], ◌∷◌, ◌++◌, Bool, ◌&&◌, ◌||◌, not, eqb, leb, length, drop}
 use Rattle.rules.specs.Words.{pick}
 use Rattle.rules.specs.Limits.{max_tasks, max_releases, max_text, task_width, release_width}
@@ -9,16 +10,14 @@ use Rattle.rules.specs.Answers.{Answer, settled, kept}
 use Rattle.rules.specs.Text.{same, lines_by, field_of, after_field, number_in, procs_word, policy_word, task_word, end_word, release_word}
 use Rattle.rules.specs.Policies.{edf, policy_of}
 use Rattle.rules.specs.declared.Fault.{Fault}
-use Rattle.rules.specs.declared.Num.{Num}
-use Rattle.rules.specs.declared.Num.TheVariants as Num·
 use Rattle.rules.specs.declared.Line.{Line}
 use Rattle.rules.specs.declared.Line.TheVariants.{Bad, Procs, Policy, Row, End, Release}
 
 -- ---- what a line says
 -- a field that is a number, handed on; a line with one that is not is badly formed
-abbrev pub with_number : Num → (ℕ → Line) → Line
-with_number (Num·.Value v) say = say v
-with_number Num·.Bad say = Bad
+abbrev pub with_number : Option ℕ → (ℕ → Line) → Line
+with_number (Some v) say = say v
+with_number None say = Bad
 
 -- one number, two, three, parted by one tab each
 unfoldable pub one_number : List ℕ → (ℕ → Line) → Line

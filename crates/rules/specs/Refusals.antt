@@ -2,6 +2,7 @@
 -- for each public call the list of tests that it makes, of which the first that fails is the answer. The refusals of a text, 1 to 3, are
 -- in Reader.
 use Rattle.std.specs.Prelude.{ℕ, zero, suc, ◌+◌, ◌*◌, ◌-◌, ◌%◌, ◌≡◌, Bool, true, false, ◌&&◌, ◌||◌, List, [], ◌∷◌, eqb, ltb, leb, length}
+use Rattle.std.specs.Prelude.{Result, Ok, Err}
 use Rattle.rules.specs.Words.{pick, count_in}
 use Rattle.rules.specs.Limits.{max_procs, max_tasks, max_period, max_end, max_releases, task_width, release_width, record_width}
 use Rattle.rules.specs.Case.{Case, task_count, period, execution, deadline, release_count, time_of, name_of}
@@ -13,6 +14,14 @@ fault_of n p = record { number = n; place = p }
 
 abbrev pub no_fault : Fault
 no_fault = fault_of 0 0
+
+-- what is answered where x is right if nothing is at fault: x, or the fault
+abbrev pub unless_fault : {A : Type 0} → Fault → A → Result A Fault
+unless_fault f x = pick (eqb f.number 0) (Ok x) (Err f)
+
+-- what a check answers: nothing is at fault, or the fault that it found
+abbrev pub checked : Fault → Result (Unit {0}) Fault
+checked f = unless_fault f tt
 
 -- a refusal by its number and place unless the test holds
 abbrev pub unless : Bool → ℕ → ℕ → Fault

@@ -1,10 +1,9 @@
 -- Lines, fields and numbers of a case text (document 01, "The case text", and request P4): where a line and a field end, which bytes are
 -- a number and what it is worth, the digits of a number, the words. The reader, the writer and the printed lines are all made of these.
+use Rattle.std.specs.Prelude.{Option, Some, None}
 use Rattle.std.specs.Prelude.{ℕ, zero, suc, ◌+◌, ◌-◌, ◌*◌, ◌/◌, ◌%◌, List, [], ◌∷◌, ◌++◌, Bool, true, false, ◌&&◌, ◌||◌, not, length, eqb}
 use Rattle.std.specs.Prelude.{ltb, leb}
 use Rattle.rules.specs.Words.{pick}
-use Rattle.rules.specs.declared.Num.{Num}
-use Rattle.rules.specs.declared.Num.TheVariants.{Value, Bad}
 
 -- ---- bytes
 abbrev pub newline_byte : ℕ
@@ -95,8 +94,8 @@ worth v [] = v
 worth v (b ∷ s) = worth (v * 10 + (b - 48)) s
 
 -- what the bytes of a field say as a number
-unfoldable pub number_in : List ℕ → Num
-number_in s = pick (is_number s) (Value (worth 0 s)) Bad
+unfoldable pub number_in : List ℕ → Option ℕ
+number_in s = pick (is_number s) (Some (worth 0 s)) None
 
 -- the decimal digits of n, which has at most k + 1 of them
 unfoldable pub digits_in : ℕ → ℕ → List ℕ

@@ -5,12 +5,10 @@ use Rattle.std.specs.Prelude.{ℕ, ◌≡◌, List}
 use Rattle.rules.specs.Case.{Case}
 use Rattle.rules.specs.Answers.{Answer, refusal, result, counted_as, replayed_as, running_as, taken_as, written_as, logged_as}
 use Rattle.rules.specs.Calls.{CountsPromise, ReplayPromise, RunningPromise, ReadPromise, WritePromise, ConvertPromise, LogPromise}
-use Rattle.rules.specs.declared.Counted.{Counted}
-use Rattle.rules.specs.declared.Replayed.{Replayed}
-use Rattle.rules.specs.declared.Running.{Running}
 use Rattle.rules.specs.declared.Taken.{Taken}
-use Rattle.rules.specs.declared.Written.{Written}
-use Rattle.rules.specs.declared.Logged.{Logged}
+use Rattle.rules.specs.declared.Totals.{Totals}
+use Rattle.std.specs.Prelude.{Result}
+use Rattle.rules.specs.declared.Fault.{Fault}
 
 -- the number returned: a refusal's, 0 for a result
 abbrev pub number_of : Answer → ℕ
@@ -46,36 +44,36 @@ pub record Told (a : Answer) (s : Seen) : Type 0 where
 
 -- ---- the promises
 pub record CountsTold (m : ℕ) (ts room later : List ℕ) (s : Seen) : Type 0 where
-  pub call : Counted
+  pub call : Result ℕ Fault
   pub kept : CountsPromise m ts room call later
   pub told : Told (counted_as call) s
 
 pub record ReplayTold (c : Case) (room later : List ℕ) (s : Seen) : Type 0 where
-  pub call : Replayed
+  pub call : Result Totals Fault
   pub kept : ReplayPromise c room call later
   pub told : Told (replayed_as call) s
 
 pub record RunningTold (c : Case) (slot : ℕ) (s : Seen) : Type 0 where
-  pub call : Running
+  pub call : Result ℕ Fault
   pub kept : RunningPromise c slot call
   pub told : Told (running_as call) s
 
 pub record ReadTold (text tasks tasks-later releases releases-later : List ℕ) (s : Seen) : Type 0 where
-  pub call : Taken
+  pub call : Result Taken Fault
   pub kept : ReadPromise text tasks releases call tasks-later releases-later
   pub told : Told (taken_as call) s
 
 pub record WriteTold (c : Case) (bytes later : List ℕ) (s : Seen) : Type 0 where
-  pub call : Written
+  pub call : Result ℕ Fault
   pub kept : WritePromise c bytes call later
   pub told : Told (written_as call) s
 
 pub record ConvertTold (text bytes later : List ℕ) (s : Seen) : Type 0 where
-  pub call : Written
+  pub call : Result ℕ Fault
   pub kept : ConvertPromise text bytes call later
   pub told : Told (written_as call) s
 
 pub record LogTold (c : Case) (log : List ℕ) (s : Seen) : Type 0 where
-  pub call : Logged
+  pub call : Result (Unit {0}) Fault
   pub kept : LogPromise c log call
   pub told : Told (logged_as call) s

@@ -44,69 +44,30 @@ pub struct Run {
     pub tasks: [Task; MAX_TASKS],
 }
 
-// What a check finds: a refusal's number and place; number 0 where nothing is at fault.
+// What a check finds at fault: a refusal's number and place. A check answers `Ok` where it finds nothing, and `Err` with the fault else; a
+// call answers `Ok` with its results, or `Err` with the fault for which it refuses. That number is never 0.
 #[derive(Clone, Copy)]
 pub struct Fault {
     pub number: u32,
     pub place: u32,
 }
 
-// What the counts call answers.
+// The results of the replay: how many jobs met their deadline, missed it, or are open at the end.
 #[derive(Clone, Copy)]
-pub enum Counted {
-    Refused { number: u32, place: u32 },
-    Counts { tasks: usize },
+pub struct Totals {
+    pub met: u32,
+    pub missed: u32,
+    pub open: u32,
 }
 
-// What the replay answers.
+// The results of the reader: the case's numbers, beside its tasks and releases, and how many of these there are.
 #[derive(Clone, Copy)]
-pub enum Replayed {
-    Refused { number: u32, place: u32 },
-    Judged { met: u32, missed: u32, open: u32 },
-}
-
-// What the running set call answers.
-#[derive(Clone, Copy)]
-pub enum Running {
-    Refused { number: u32, place: u32 },
-    Ran { set: u32 },
-}
-
-// What the reader answers.
-#[derive(Clone, Copy)]
-pub enum Taken {
-    Refused {
-        number: u32,
-        place: u32,
-    },
-    Read {
-        procs: u32,
-        policy: u32,
-        end: u32,
-        tasks: usize,
-        releases: usize,
-    },
-}
-
-// What the writer and the converter answer.
-#[derive(Clone, Copy)]
-pub enum Written {
-    Refused { number: u32, place: u32 },
-    Text { length: usize },
-}
-
-// What the log check answers.
-#[derive(Clone, Copy)]
-pub enum Logged {
-    Refused { number: u32, place: u32 },
-    Accepted,
-}
-
-// What the bytes of a field say where a number is wanted.
-#[derive(Clone, Copy)]
-pub enum Num {
-    Value { value: u32 },
-    Bad,
+pub struct Taken {
+    pub procs: u32,
+    pub policy: u32,
+    pub end: u32,
+    pub tasks: usize,
+    pub releases: usize,
 }
 
 // The kinds of line of a case text, in their order: one numbering for the words that are read and those that are written.

@@ -1,4 +1,5 @@
 -- Laws of `number_in`: when bytes are no number, and what a turn of the number reader's loop finds.
+use Rattle.std.specs.Prelude.{Some, None}
 use mathlib.Core.Path.{◌≡◌, refl}
 use mathlib.Core.Bool.{true, false, and-false}
 use mathlib.Core.List.{List, [], ◌∷◌}
@@ -9,30 +10,29 @@ use native.Mathlib.Omega.{arith}
 use lib.ListN.{length, drop, get_or}
 use lib.Seq.{drop-cons, drop-length}
 use borrow.Author.Tests.{eq-eqb, ne_eqb, le-leb, lt-leb}
-use Rattle.rules.specs.declared.Num.TheVariants.{Value, Bad}
 use Rattle.rules.specs.Text.{all_digits, no_leading_zero, worth, is_number, number_in}
 
 -- ---- what is no number
-pub bad_empty : (s : List ℕ) → length s ≡ 0 → Bad ≡ number_in s
+pub bad_empty : (s : List ℕ) → length s ≡ 0 → None ≡ number_in s
 unfolding number_in is_number
 bad_empty s h = rw (lt-leb 1 (length s) (omega arith))
 
-pub bad_long : (s : List ℕ) → 9 < length s → Bad ≡ number_in s
+pub bad_long : (s : List ℕ) → 9 < length s → None ≡ number_in s
 unfolding number_in is_number
 bad_long s h = rw (lt-leb (length s) 9 h, and-false)
 
-pub bad_front : (s : List ℕ) → no_leading_zero s ≡ false → Bad ≡ number_in s
+pub bad_front : (s : List ℕ) → no_leading_zero s ≡ false → None ≡ number_in s
 unfolding number_in is_number
 bad_front s h = rw (h, and-false)
 
-pub bad_digit : (s : List ℕ) → all_digits s ≡ false → Bad ≡ number_in s
+pub bad_digit : (s : List ℕ) → all_digits s ≡ false → None ≡ number_in s
 unfolding number_in is_number
 bad_digit s h = rw (h, and-false)
 
 -- ---- what is one
 pub good : (s : List ℕ) (v : ℕ) → 1 ≤ length s → length s ≤ 9 → no_leading_zero s ≡ true → all_digits s ≡ true
     → worth 0 s ≡ v
-    → Value v ≡ number_in s
+    → Some v ≡ number_in s
 unfolding number_in is_number
 good s v a b p d w = rw (le-leb 1 (length s) a, le-leb (length s) 9 b, p, d, w)
 

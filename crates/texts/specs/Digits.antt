@@ -1,5 +1,6 @@
 -- Numbers and their digits (`number_in`, `digits_of` of rules, Text): what is written of a number reads as that number, and what reads as a
 -- number is what is written of it. Also how many digits there are, and that a field of digits is well formed. For Fields and LineTrip.
+use Rattle.std.specs.Prelude.{Option, Some, None}
 use Rattle.std.specs.Prelude.{◌≡◌, true, ◌&&◌, ◌⊎◌, List, [], ◌∷◌, ◌++◌, ℕ, zero, suc, ◌+◌, ◌-◌, ◌*◌, ◌/◌, ◌%◌, ◌^◌, ◌≤◌, ◌<◌, eqb, leb}
 use Rattle.std.specs.Prelude.{ltb, length, get_or}
 use Rattle.std.proofs.Math.Path.{refl}
@@ -9,8 +10,6 @@ use Rattle.std.proofs.Math.Nat.{pow-le-pow_right}
 use Rattle.std.proofs.Math.ListN.{get_or-append}
 use Rattle.std.proofs.lemmas.Bool.{eqb-false, not-true}
 use Rattle.rules.specs.Words.{pick}
-use Rattle.rules.specs.declared.Num.{Num}
-use Rattle.rules.specs.declared.Num.TheVariants.{Value, Bad}
 use Rattle.rules.specs.Text.{is_digit, all_digits, no_leading_zero, is_number, worth, number_in, digits_in, digits_of}
 use Rattle.lists.specs.Tests.{and_left, and_right}
 use Rattle.lists.specs.Lists.{picked}
@@ -130,7 +129,7 @@ no_zero_written zero h = unfold digits_in in refl
 no_zero_written (suc n) h = no_zero_first (digits_in 8 (suc n)) ((digits_shown 8 (suc n)).front h (omega arith))
 
 -- what is written of n reads as n
-pub written_reads : (n : ℕ) → n < 10 ^ 9 → number_in (digits_of n) ≡ Value n
+pub written_reads : (n : ℕ) → n < 10 ^ 9 → number_in (digits_of n) ≡ Some n
 unfolding number_in is_number
 written_reads n h =
     let d = digits_shown 8 n in
@@ -208,6 +207,6 @@ number_digits s e =
     (and_right (leb 1 len && leb len 9 && no_leading_zero s) (all_digits s) e)
 
 -- a field says a number that it is the digits of, or none at all
-pub reads_written : (P : Num → Type 0) (s : List ℕ) → P Bad → ((v : ℕ) → s ≡ digits_of v → P (Value v)) → P (number_in s)
+pub reads_written : (P : Option ℕ → Type 0) (s : List ℕ) → P None → ((v : ℕ) → s ≡ digits_of v → P (Some v)) → P (number_in s)
 unfolding number_in
-reads_written P s none some = picked P (is_number s) (Value (worth 0 s)) Bad (λ e. some (worth 0 s) (sym (number_digits s e))) (λ e. none)
+reads_written P s none some = picked P (is_number s) (Some (worth 0 s)) None (λ e. some (worth 0 s) (sym (number_digits s e))) (λ e. none)

@@ -1,11 +1,10 @@
 -- The words of the policies (rules, Policies): how long they are, that they stand in a field, and that each is read as the number that
 -- it is written for. All by the list of words, computed once: a policy more changes at most `name_room`.
+use Rattle.std.specs.Prelude.{Option, Some, None}
 use Rattle.std.specs.Prelude.{◌≡◌, refl, true, List, [], ℕ, ◌≤◌, ◌<◌, length}
 use Rattle.std.proofs.Common.{◌∙◌, zero-add, arith}
 use Rattle.rules.specs.Text.{same, has}
 use Rattle.rules.specs.Policies.{max_policy, policy_words, policy_name, policy_of}
-use Rattle.rules.specs.declared.Num.{Num}
-use Rattle.rules.specs.declared.Num.TheVariants.{Value, Bad}
 use Rattle.texts.specs.Fields.{Plain}
 use Rattle.texts.specs.WordLists.{every, every_at, every_all, none_at, is_plain, is_plain_lem, is_long, is_long_lem, distinct, place_found}
 use Rattle.texts.specs.WordLists.{place_read}
@@ -47,11 +46,11 @@ unfolding policy_name
 name_none p h = none_at policy_words p (omega arith)
 
 -- its word names it, and no other word does
-pub name_found : (p : ℕ) → p ≤ max_policy → policy_of (policy_name p) ≡ Value p
+pub name_found : (p : ℕ) → p ≤ max_policy → policy_of (policy_name p) ≡ Some p
 unfolding policy_of policy_name
 name_found p h = place_found 0 policy_words p distinct-words (omega arith) ∙ rw (zero-add p)
 
-pub name_read : (P : Num → Type 0) (s : List ℕ) → P Bad → ((p : ℕ) → p ≤ max_policy → s ≡ policy_name p → P (Value p))
+pub name_read : (P : Option ℕ → Type 0) (s : List ℕ) → P None → ((p : ℕ) → p ≤ max_policy → s ≡ policy_name p → P (Some p))
     → P (policy_of s)
 unfolding policy_of policy_name
 name_read P s bad good = place_read P 0 policy_words s bad (λ k h e. rw (zero-add k) (good k (omega arith) e))

@@ -1,11 +1,10 @@
 -- Lists of words (`place_from` of rules, Policies): a test that holds of every word of a list, words of which no two are the same, and that
 -- a word is found at its own place and nowhere else. A word more in such a list is tested by computing and needs no law.
+use Rattle.std.specs.Prelude.{Option, Some, None}
 use Rattle.std.specs.Prelude.{◌≡◌, refl, Bool, true, false, ◌&&◌, not, List, [], ◌∷◌, ℕ, zero, suc, ◌+◌, ◌≤◌, ◌<◌, leb, length, get_or}
 use Rattle.std.proofs.Common.{sym, ◌∙◌, add-zero, add-suc, suc-add, arith, eq-eqb, leb-true}
 use Rattle.rules.specs.Text.{newline_byte, return_byte, tab_byte, same, has}
 use Rattle.rules.specs.Policies.{place_from}
-use Rattle.rules.specs.declared.Num.{Num}
-use Rattle.rules.specs.declared.Num.TheVariants.{Value, Bad}
 use Rattle.lists.specs.Lists.{picked}
 use Rattle.lists.specs.Tests.{and_left, and_right}
 use Rattle.texts.specs.Fields.{same_true, Plain}
@@ -71,7 +70,7 @@ same_self (x ∷ s) = rw (eq-eqb x x refl, same_self s)
 
 -- a word is found at its place
 pub place_found : (n : ℕ) (ws : List (List ℕ)) (k : ℕ) → distinct ws ≡ true → k < length ws
-    → place_from n ws (get_or ws k []) ≡ Value (n + k)
+    → place_from n ws (get_or ws k []) ≡ Some (n + k)
 unfolding place_from distinct
 place_found n [] k e h = absurd (omega arith)
 place_found n (w ∷ ws) zero e h = rw (same_self w, add-zero n)
@@ -81,8 +80,8 @@ place_found n (w ∷ ws) (suc k) e h =
     rw (off) (place_found (suc n) ws k (and_right others _ e) (omega arith) ∙ rw (add-suc, suc-add))
 
 -- and what is found is the word at its place
-pub place_read : (P : Num → Type 0) (n : ℕ) (ws : List (List ℕ)) (s : List ℕ) → P Bad
-    → ((k : ℕ) → k < length ws → s ≡ get_or ws k [] → P (Value (n + k))) → P (place_from n ws s)
+pub place_read : (P : Option ℕ → Type 0) (n : ℕ) (ws : List (List ℕ)) (s : List ℕ) → P None
+    → ((k : ℕ) → k < length ws → s ≡ get_or ws k [] → P (Some (n + k))) → P (place_from n ws s)
 unfolding place_from
 place_read P n [] s bad good = bad
 place_read P n (w ∷ ws) s bad good =

@@ -2,7 +2,6 @@
 -- rules, Calls). Verdict, finish and demotion are read from the room here, and not from the definition of a record.
 use Rattle.std.specs.Prelude.{◌≡◌, true, List, ◌++◌, ℕ, ◌+◌, ◌*◌, ◌≤◌, ◌<◌, length, get_or, drop}
 use Rattle.std.proofs.Common.{sym, ◌∙◌, arith}
-use Rattle.rules.specs.declared.Replayed.{Replayed}
 use Rattle.rules.specs.Words.{count_in}
 use Rattle.rules.specs.Limits.{record_width}
 use Rattle.rules.specs.Case.{Case, under, task_count, deadline, release_count, time_of}
@@ -19,6 +18,9 @@ use Rattle.legal.specs.Settled.{result_clear, kept_new}
 use Rattle.theory.specs.Appear.{accepted_each_appears}
 use Rattle.theory.specs.Verdicts.{one_of_three}
 use Rattle.theory.specs.Demand3.{due_at, Judged, free_slots, demoted_meets, edf_met_stays_met}
+use Rattle.rules.specs.declared.Totals.{Totals}
+use Rattle.std.specs.Prelude.{Result}
+use Rattle.rules.specs.declared.Fault.{Fault}
 
 -- the three numbers that a room holds for release j
 abbrev pub verdict_in : List ℕ → ℕ → ℕ
@@ -33,7 +35,7 @@ demotion_in room j = get_or room (j * record_width + 2) 0
 -- the replay of the case c, lent a room, answered with totals (it refused nothing) and left `later` in the room
 pub record Returned (c : Case) (later : List ℕ) : Type 0 where
   pub lent : List ℕ
-  pub said : Replayed
+  pub said : Result Totals Fault
   pub totals : List ℕ
   pub meets : ReplayPromise c lent said later
   pub gave : replayed_as said ≡ result totals

@@ -1,12 +1,11 @@
 -- Which words of the command line ask for what, and what is at fault in what is asked. The words are the project's own: document 01 fixes
 -- only what the program prints with no word after its name.
+use Rattle.std.specs.Prelude.{Option, Some, None}
 use Rattle.std.specs.Prelude.{ℕ, zero, suc, Bool, true, false, List}
 use Rattle.rules.specs.Words.{pick}
 use Rattle.rules.specs.Text.{same, number_in}
 use Rattle.rules.specs.Refusals.{no_fault, slot_fault}
 use Rattle.rules.specs.declared.Fault.{Fault}
-use Rattle.rules.specs.declared.Num.{Num}
-use Rattle.rules.specs.declared.Num.TheVariants.{Value, Bad}
 use Rattle.reasons.specs.Reasons.{words}
 use Rattle.wishes.specs.declared.Asked.{Asked}
 use Rattle.wishes.specs.declared.Wish.{Wish}
@@ -25,9 +24,9 @@ word_asks w =
     (pick (same w (words "help")) Help (pick (same w (words "-h")) Help (pick (same w (words "--help")) Help Unknown)))))
 
 -- `slot` and its number
-unfoldable pub slot_named : List ℕ → Num → Wish
-slot_named w (Value s) = pick (same w (words "slot")) (Slot s) Unknown
-slot_named w Bad = Unknown
+unfoldable pub slot_named : List ℕ → Option ℕ → Wish
+slot_named w (Some s) = pick (same w (words "slot")) (Slot s) Unknown
+slot_named w None = Unknown
 
 abbrev pub slot_asks : List ℕ → List ℕ → Wish
 slot_asks w n = slot_named w (number_in n)
@@ -61,9 +60,9 @@ words_ask (suc (suc (suc (suc zero)))) a b c = three_ask a b c
 words_ask (suc (suc (suc (suc (suc n))))) a b c = asked_of Unknown false
 
 -- ---- a word that stands in some command
-unfoldable pub is_number : Num → Bool
-is_number (Value s) = true
-is_number Bad = false
+unfoldable pub is_number : Option ℕ → Bool
+is_number (Some s) = true
+is_number None = false
 
 unfoldable pub is_asked : Wish → Bool
 is_asked Unknown = false

@@ -1,41 +1,20 @@
 -- `checks::trace_checks` meets its contract.
-use mathlib.Core.Path.{◌≡◌, ap₂, ◌∙◌}
-use mathlib.Core.List.{List, [], ◌∷◌}
-use Rattle.rules.specs.Refusals.{or_next, first, end_fault, trace_fault, releases_fault, absences_fault}
-use Rattle.rules.specs.declared.Fault.{Fault}
-use Rattle.legal.specs.Firsts.{row_stop, row_join, row_passed}
+use Rattle.std.proofs.Common.{sym, ◌∙◌}
+use Rattle.legal.specs.Firsts.{clear_checked, checked_next}
 use Rattle.legal.specs.Passing.{end_clear, trace_clear}
 use Rattle.lowest.proofs.Walk.{both_tested}
 use Rattle.checks.proofs.trace_checks.Goals as goal
 
-pub returns-then-number-ne0 : goal.returns-then-number-ne0
-returns-then-number-ne0 c =
-    -- the tests on the sizes, and those on the releases and the tasks that they are of
-    let sizes : List Fault = end_fault c.args.end ∷ trace_fault c.args.trace.now ∷ [] in
-    let others : List Fault = releases_fault c.args.table.now c.args.end c.args.trace.now
-    ∷ absences_fault c.args.table.now c.args.trace.now
-    ∷ [] in
-    let found : c.first_of_two-size.result ≡ first sizes = rw (c.trace_fault.ensures, c.end_fault.ensures) at c.first_of_two-size.ensures in
-    row_stop _ sizes others found c.if-number-ne0.true
-
-pub releases_fault-releases-requires : goal.releases_fault-releases-requires
-releases_fault-releases-requires c =
-    -- the tests on the sizes, and those on the releases and the tasks that they are of
-    let sizes : List Fault = end_fault c.args.end ∷ trace_fault c.args.trace.now ∷ [] in
-    let found : c.first_of_two-size.result ≡ first sizes = rw (c.trace_fault.ensures, c.end_fault.ensures) at c.first_of_two-size.ensures in
-    let w = row_passed _ sizes found c.if-number-ne0.false in
-    (c.requires, (trace_clear _ w.1.0).few, end_clear _ w.0)
+pub releases_fault-requires : goal.releases_fault-requires
+releases_fault-requires c =
+    let ends = end_clear _ (clear_checked _ (sym c.end_fault.ensures ∙ c.in_ok-end_fault.was)) in
+    let few = (trace_clear _ (clear_checked _ (sym c.trace_fault.ensures ∙ c.in_ok-trace_fault.was))).few in
+    (rw (← c.case.view_is) at c.requires, few, ends)
 
 pub returns : goal.returns
 returns c =
-    -- the tests on the sizes, and those on the releases and the tasks that they are of
-    let sizes : List Fault = end_fault c.args.end ∷ trace_fault c.args.trace.now ∷ [] in
-    let others : List Fault = releases_fault c.args.table.now c.args.end c.args.trace.now
-    ∷ absences_fault c.args.table.now c.args.trace.now
-    ∷ [] in
-    let found : c.first_of_two-size.result ≡ first sizes = rw (c.trace_fault.ensures, c.end_fault.ensures) at c.first_of_two-size.ensures in
-    let releases-fault = c.releases_fault-releases in
-    let absences-fault = c.absences_fault-absences in
-    let asked = both_tested c.args.table.now c.args.end c.args.trace.now _ _ _ _ c.requires.few
-    releases-fault.ensures absences-fault.ensures c.first_of_two.ensures in
-    c.or_next.ensures ∙ ap₂ or_next found asked ∙ row_join sizes others
+    let sound = rw (← c.case.view_is) at c.requires in
+    let ends = sym c.end_fault.ensures ∙ c.in_ok-end_fault.was in
+    let few = sym c.trace_fault.ensures ∙ c.in_ok-trace_fault.was in
+    let tested = both_tested _ _ _ _ sound.few (sym c.releases_fault.ensures ∙ c.in_ok-last.was) in
+    rw (← c.case.view_is) (c.absences_fault.ensures ∙ tested ∙ sym (checked_next _ _ ends ∙ checked_next _ _ few))

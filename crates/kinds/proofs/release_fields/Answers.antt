@@ -1,6 +1,6 @@
 -- `kinds::release_fields` meets its contract.
+use Rattle.std.specs.Prelude.{Some}
 use mathlib.Core.Path.{◌≡◌, sym, ap, ◌∙◌}
-use Rattle.rules.specs.declared.Num.TheVariants.{Value}
 use Rattle.rules.specs.Text.{number_in, field_of}
 use Rattle.rules.specs.Reader.{two_numbers, one_number}
 use Rattle.kinds.proofs.release_fields.Goals as goal
@@ -15,9 +15,9 @@ pub returns-in_default-number : goal.returns-in_default-number
 unfolding one_number two_numbers
 returns-in_default-number c =
     -- the first field is the time
-    let time_read : number_in (field_of c.args.s.now) ≡ Value c.in-Value.time = ap number_in (sym c.field-first.ensures)
+    let time_read : number_in (field_of c.args.s.now) ≡ Some c.in-Some.time = ap number_in (sym c.field-first.ensures)
     ∙ sym c.number.ensures
-    ∙ c.in-Value.is in
+    ∙ c.in-Some.is in
     let after-field = c.after_field in
     rw (
       time_read,
@@ -28,9 +28,9 @@ pub returns : goal.returns
 unfolding one_number two_numbers
 returns c =
     -- the first field is the time
-    let time_read : number_in (field_of c.args.s.now) ≡ Value c.in-Value.time = ap number_in (sym c.field-first.ensures)
+    let time_read : number_in (field_of c.args.s.now) ≡ Some c.in-Some.time = ap number_in (sym c.field-first.ensures)
     ∙ sym c.number.ensures
-    ∙ c.in-Value.is in
+    ∙ c.in-Some.is in
     let after-field = c.after_field in
     let number2 = c.number-2 in
     rw (

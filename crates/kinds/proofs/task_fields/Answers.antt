@@ -1,8 +1,8 @@
 -- `kinds::task_fields` meets its contract.
+use Rattle.std.specs.Prelude.{Some}
 use mathlib.Core.Path.{◌≡◌, sym, ap, ◌∙◌}
 use mathlib.Core.List.{List}
 use Prim.Native.Nat.{ℕ}
-use Rattle.rules.specs.declared.Num.TheVariants.{Value}
 use Rattle.rules.specs.Text.{number_in, field_of, after_field}
 use Rattle.rules.specs.Reader.{three_numbers, two_numbers, one_number}
 use Rattle.kinds.proofs.task_fields.Goals as goal
@@ -17,8 +17,8 @@ pub returns-in_default-number : goal.returns-in_default-number
 unfolding one_number three_numbers two_numbers
 returns-in_default-number c =
     -- the first field is T
-    let period_read : number_in (field_of c.args.s.now) ≡ Value c.in-Value.period = let field = c.field-first in
-    ap number_in (sym field.ensures) ∙ sym c.number.ensures ∙ c.in-Value.is in
+    let period_read : number_in (field_of c.args.s.now) ≡ Some c.in-Some.period = let field = c.field-first in
+    ap number_in (sym field.ensures) ∙ sym c.number.ensures ∙ c.in-Some.is in
     let after-field = c.after_field-t in
     let field2 = c.field-second in
     rw (
@@ -31,10 +31,10 @@ pub returns-in_default-number-2 : goal.returns-in_default-number-2
 unfolding one_number three_numbers two_numbers
 returns-in_default-number-2 c =
     -- the first field is T
-    let period_read : number_in (field_of c.args.s.now) ≡ Value c.in-Value.period = let field = c.field-first in
-    ap number_in (sym field.ensures) ∙ sym c.number.ensures ∙ c.in-Value.is in
+    let period_read : number_in (field_of c.args.s.now) ≡ Some c.in-Some.period = let field = c.field-first in
+    ap number_in (sym field.ensures) ∙ sym c.number.ensures ∙ c.in-Some.is in
     -- the first field of what follows its tab is C
-    let execution_read : number_in (field_of (after_field c.args.s.now)) ≡ Value c.in-Value-number.execution = let after-field =
+    let execution_read : number_in (field_of (after_field c.args.s.now)) ≡ Some c.in-Value-number.execution = let after-field =
     c.after_field-t in
     let field2 = c.field-second in
     ap (λ (z : List ℕ). number_in (field_of z)) (sym after-field.ensures) ∙ ap number_in (sym field2.ensures)
@@ -51,10 +51,10 @@ pub returns : goal.returns
 unfolding one_number three_numbers two_numbers
 returns c =
     -- the first field is T
-    let period_read : number_in (field_of c.args.s.now) ≡ Value c.in-Value.period = let field = c.field-first in
-    ap number_in (sym field.ensures) ∙ sym c.number.ensures ∙ c.in-Value.is in
+    let period_read : number_in (field_of c.args.s.now) ≡ Some c.in-Some.period = let field = c.field-first in
+    ap number_in (sym field.ensures) ∙ sym c.number.ensures ∙ c.in-Some.is in
     -- the first field of what follows its tab is C
-    let execution_read : number_in (field_of (after_field c.args.s.now)) ≡ Value c.in-Value-number.execution = let after-field =
+    let execution_read : number_in (field_of (after_field c.args.s.now)) ≡ Some c.in-Value-number.execution = let after-field =
     c.after_field-t in
     let field2 = c.field-second in
     ap (λ (z : List ℕ). number_in (field_of z)) (sym after-field.ensures) ∙ ap number_in (sym field2.ensures)

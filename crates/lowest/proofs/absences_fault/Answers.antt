@@ -1,16 +1,13 @@
 -- `lowest::absences_fault` meets its contract.
-use mathlib.Core.Path.{ap₂, sym, ◌∙◌}
-use native.Mathlib.Omega.{arith}
-use Rattle.rules.specs.Refusals.{or_next}
-use Rattle.legal.specs.Firsts.{none_yet, first_more}
+use Rattle.std.proofs.Common.{arith, sym, ◌∙◌}
+use Rattle.std.proofs.lemmas.Result.{err_from_is_err_and}
 use Rattle.lowest.specs.Needs.{unkept_fault}
+use Rattle.legal.specs.Firsts.{many_stop}
 use Rattle.lowest.proofs.absences_fault.Goals as goal
 
-pub loop-k-init : goal.loop-k-init
-loop-k-init c = (omega arith, c.fault-found.ensures ∙ sym (none_yet _))
-
-pub loop-k-preserved : goal.loop-k-preserved
+pub returns-in_err-absent_fault : goal.returns-in_err-absent_fault
 unfolding unkept_fault
-loop-k-preserved c =
-    let looped = c.loop-k in
-    (omega arith, c.or_next-found.ensures ∙ ap₂ or_next looped.invariant.1 c.absent_fault-next.ensures ∙ sym (first_more _ _))
+returns-in_err-absent_fault c =
+    let p = err_from_is_err_and c.from_residual.result c.from_residual.ensures.1 in
+    let stopped = sym c.absent_fault.ensures ∙ c.in_err-absent_fault.was in
+    rw (p.1, p.2) (sym (many_stop (unkept_fault c.args.last.now) _ _ (omega arith) c.loop-k.invariant _ stopped))

@@ -1,12 +1,8 @@
 -- `lowest::absences_fault` meets its contract.
-use Prim.Native.Nat.{◌-◌, ◌≤◌}
 use mathlib.Core.Path.{◌≡◌}
 use Rattle.rules.specs.Refusals.{first_of}
 use Rattle.lowest.specs.Needs.{unkept_fault}
 use Rattle.lowest.proofs.absences_fault.Given as goal
 
 abbrev pub invariant-loop-k : goal.invariant-loop-k
-invariant-loop-k l = (l.k ≤ l.tasks) × (l.found ≡ first_of (unkept_fault l.last) l.k)
-
-abbrev pub decreases-loop-k : goal.decreases-loop-k
-decreases-loop-k l = l.tasks - l.k
+invariant-loop-k l = (first_of (unkept_fault l.last) l.k).number ≡ 0

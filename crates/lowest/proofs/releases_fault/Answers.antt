@@ -1,52 +1,43 @@
 -- `lowest::releases_fault` meets its contract.
-use Prim.Native.Nat.{◌≤◌, ◌<◌}
-use native.Mathlib.Omega.{arith}
+use Rattle.std.proofs.Common.{rules, arith, sym, ◌∙◌, ◌≤◌, ◌<◌}
+use Rattle.std.proofs.lemmas.Result.{err_from_is_err_and}
 use Rattle.rules.specs.Words.{tab}
 use Rattle.rules.specs.Limits.{max_tasks, max_end}
-use Rattle.rules.specs.Case.{release_count, time_of, name_of}
+use Rattle.rules.specs.Case.{time_of, name_of}
 use Rattle.rules.specs.Refusals.{last_before}
-use Rattle.lowest.proofs.Walk.{passed, checked_none, checked_more, checked_hit}
+use Rattle.lowest.proofs.Walk.{passed, checked_none, checked_more, checked_all, checked_hit}
 use Rattle.lowest.proofs.releases_fault.Goals as goal
 
 pub loop-j-init : goal.loop-j-init
 unfolding tab last_before
-loop-j-init c = (omega arith, checked_none _ _ _)
+loop-j-init c = checked_none _ _ _
 
-pub returns-then-refused-ne0 : goal.returns-then-refused-ne0
-returns-then-refused-ne0 c =
-    let looped = c.loop-j in
-    let release-count = c.release_count-releases in
-    let l : looped.j < release_count c.args.trace.now = omega (arith, release-count.ensures) in
-    checked_hit _ _ _ _ _ c.release_fault-found.ensures _ looped.invariant.1 _ l c.if-refused-ne0.true
+pub returns-in_err-release_fault : goal.returns-in_err-release_fault
+returns-in_err-release_fault c =
+    let p = err_from_is_err_and c.from_residual.result c.from_residual.ensures.1 in
+    let stopped = sym c.release_fault.ensures ∙ c.in_err-release_fault.was in
+    rw (p.1, p.2) (sym (checked_hit _ _ _ _ _ c.loop-j.invariant.none (omega arith) stopped))
+
+-- a release with no fault names one of few tasks at a time that is not too late
+abbrev Stands : goal.After-name_of → Type 0
+Stands c = (1 ≤ c.name_of.result) × (c.name_of.result ≤ max_tasks) × (c.time_of-time.result < max_end)
+
+stands : (c : goal.After-name_of) → Stands c
+stands c =
+    let p = passed _ _ _ _ (sym c.release_fault.ensures ∙ c.in_ok-release_fault.was) in
+    rw (c.name_of.ensures, c.time_of-time.ensures)
+    (p.some, omega (arith, p.known, c.requires.0.few), omega (arith, p.soon, c.requires.2))
 
 pub overflow_sub-i : goal.overflow_sub-i
-overflow_sub-i c =
-    -- a release with no fault names one of few tasks at a time that is not too late
-    let stands : (1 ≤ name_of c.args.trace.now c.loop-j.j) × (name_of c.args.trace.now c.loop-j.j ≤ max_tasks)
-    × (time_of c.args.trace.now c.loop-j.j < max_end) = let p = passed _ _ _ _ _ c.release_fault-found.ensures c.if-refused-ne0.false in
-    (p.some, omega (arith, p.known, c.requires.0.few), omega (arith, p.soon, c.requires.2)) in
-    omega (arith, stands, c.name_of.ensures)
+overflow_sub-i c = (stands c).0
 
 pub overflow_add-last : goal.overflow_add-last
-overflow_add-last c =
-    -- a release with no fault names one of few tasks at a time that is not too late
-    let stands : (1 ≤ name_of c.args.trace.now c.loop-j.j) × (name_of c.args.trace.now c.loop-j.j ≤ max_tasks)
-    × (time_of c.args.trace.now c.loop-j.j < max_end) = let p = passed _ _ _ _ _ c.release_fault-found.ensures c.if-refused-ne0.false in
-    (p.some, omega (arith, p.known, c.requires.0.few), omega (arith, p.soon, c.requires.2)) in
-    omega (arith, stands, c.time_of-time.ensures)
+overflow_add-last c = omega (arith, stands c)
 
 pub bounds-last-i : goal.bounds-last-i
-bounds-last-i c =
-    -- a release with no fault names one of few tasks at a time that is not too late
-    let stands : (1 ≤ name_of c.args.trace.now c.loop-j.j) × (name_of c.args.trace.now c.loop-j.j ≤ max_tasks)
-    × (time_of c.args.trace.now c.loop-j.j < max_end) = let p = passed _ _ _ _ _ c.release_fault-found.ensures c.if-refused-ne0.false in
-    (p.some, omega (arith, p.known, c.requires.0.few), omega (arith, p.soon, c.requires.2)) in
-    omega (arith, stands, c.name_of.ensures)
+bounds-last-i c = omega (arith, stands c)
 
 pub loop-j-preserved : goal.loop-j-preserved
-loop-j-preserved c = (
-  omega arith,
-  rw (c.name_of.ensures, c.time_of-time.ensures)
-      (checked_more _ _ _ _ _ c.release_fault-found.ensures _ c.loop-j.invariant.1
-      c.requires.0.few c.requires.2 c.if-refused-ne0.false),
-)
+loop-j-preserved c =
+    rw (c.name_of.ensures, c.time_of-time.ensures)
+    (checked_more _ _ _ _ (sym c.release_fault.ensures ∙ c.in_ok-release_fault.was) _ c.loop-j.invariant c.requires.0.few c.requires.2)
