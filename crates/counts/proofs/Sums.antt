@@ -20,11 +20,6 @@ pub added : (ts : List ℕ) (l i s a T D : ℕ) → s ≡ sum (λ i. availabilit
 unfolding sum
 added ts l i s a T D p q r e = rw (add-one i, zero-add i) (ap₂ ◌+◌ p (e ∙ rw (q, r)))
 
-module _ (m : ℕ) (ts : List ℕ) (l s : ℕ) (e : s ≡ availabilities ts l) where
-  pub count_low : l < s / (m + 1) → 0 ≡ count m ts l
-  unfolding count
-  count_low h = rw (← e, ← (add-one m)) (omega arith)
-
-  pub count_high : l - s / (m + 1) ≡ count m ts l
-  unfolding count
-  count_high = rw (← e, ← (add-one m))
+pub count_is : (m : ℕ) (ts : List ℕ) (l s : ℕ) → s ≡ availabilities ts l → l - s / (m + 1) ≡ count m ts l
+unfolding count
+count_is m ts l s e = rw (← e, ← (add-one m))

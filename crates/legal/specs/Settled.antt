@@ -2,14 +2,15 @@
 -- in document 01's numbers is that of one case of its enum alone. For Decided and the proofs of the calls on numbers.
 use Rattle.std.specs.Prelude.{◌≡◌, refl, Bool, true, false, List, [], ℕ, eqb, get_or}
 use Rattle.std.proofs.Common.{ap, sym, ◌∙◌}
-use Rattle.std.proofs.lemmas.Bool.{false≢true}
+use Rattle.std.proofs.lemmas.Bool.{false≢true, eqb-false}
 use borrow.Author.Tests.{eqb-true, eq-eqb, ne_eqb}
 use Rattle.std.specs.Prelude.{Result, Ok, Err}
 use Rattle.rules.specs.declared.Fault.{Fault}
 use Rattle.rules.specs.declared.Totals.{Totals}
 use Rattle.rules.specs.declared.Taken.{Taken}
 use Rattle.rules.specs.Words.{pick}
-use Rattle.rules.specs.Refusals.{fault_of, no_fault}
+use Rattle.rules.specs.Refusals.{fault_of, no_fault, checked}
+use Rattle.legal.specs.Firsts.{clear_checked}
 use Rattle.rules.specs.Answers.{Answer, refusal, result, settled, kept, answer_as, counted_as, replayed_as, running_as, taken_as}
 use Rattle.rules.specs.Answers.{written_as, logged_as, total_values, taken_values}
 
@@ -33,6 +34,28 @@ module _ (x f : Fault) (e : x ≡ f) where
 
   pub clear : x.number ≡ 0 → f.number ≡ 0
   clear h = ap (λ (u : Fault). u.number) (sym e) ∙ h
+
+-- ---- f is what a check is made of (rules, Refusals, `checked`): it answers a fault g, or none
+module _ (f : Fault) where
+  checked_fault : (g : Fault) → checked f ≡ Err g → (g ≡ f) × (f.number ≡ 0 → ⊥)
+  checked_fault g = go (eqb f.number 0) refl
+    where
+      go : (b : Bool) → eqb f.number 0 ≡ b → ◌≡◌ {A = Result (Unit {0}) Fault} (pick b (Ok tt) (Err f)) (Err g)
+          → (g ≡ f) × (f.number ≡ 0 → ⊥)
+      go true q e = absurd cc
+      go false q e = (cc, eqb-false _ _ q)
+
+  pub refuses_with : (g : Fault) (vs : List ℕ) → checked f ≡ Err g → refusal g.number g.place ≡ settled f vs
+  refuses_with g vs e = let w = checked_fault g e in rw w.0 (refuses f f refl vs w.1)
+
+  pub leaves_with : (g : Fault) (new old : List ℕ) → checked f ≡ Err g → old ≡ kept f new old
+  leaves_with g new old e = leaves f f refl new old (checked_fault g e).1
+
+  pub settles_with : (vs : List ℕ) → checked f ≡ Ok tt → result vs ≡ settled f vs
+  settles_with vs e = settles f f refl vs (clear_checked f e)
+
+  pub puts_with : (new old : List ℕ) → checked f ≡ Ok tt → new ≡ kept f new old
+  puts_with new old e = puts f f refl new old (clear_checked f e)
 
 -- ---- where nothing is at fault the values are the result and the room is the new one
 pub settled_clear : (f : Fault) (vs : List ℕ) → f.number ≡ 0 → settled f vs ≡ result vs

@@ -25,8 +25,7 @@ pub fn tasks_fault(table: &[u32]) -> Result<(), Fault>
 
 // The tests of a release, of which the first that fails is the fault. What `last` holds of a task is one more than the time of its last
 // release, or 0.
-#[tactic(auto, using(legal::specs::Firsts::refused, legal::specs::Firsts::rows),
-    unfolding(rules::specs::Refusals::release_fault))]
+#[tactic(auto, using(legal::specs::Firsts::refused, legal::specs::Firsts::rows), unfolding(rules::specs::Refusals::release_fault))]
 pub fn release_fault(
     table: &[u32],
     end: u32,
@@ -65,8 +64,7 @@ pub fn releases_fault(table: &[u32], end: u32, trace: &[u32]) -> Result<[u32; MA
 }
 
 // 16, task by task, from what is kept of each one's last release: the trace is not gone through again.
-#[tactic(auto, using(legal::specs::Firsts::many),
-    unfolding(crate::specs::Needs::unkept_fault))]
+#[tactic(auto, using(legal::specs::Firsts::many), unfolding(crate::specs::Needs::unkept_fault))]
 pub fn absences_fault(table: &[u32], last: &[u32; MAX_TASKS]) -> Result<(), Fault>
     requires { task_count table.now ≤ max_tasks }
     ensures { result ≡ checked (first_of (unkept_fault last.now) (task_count table.now)) }

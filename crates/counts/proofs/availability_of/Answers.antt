@@ -9,10 +9,10 @@ use Rattle.counts.proofs.availability_of.Goals as goal
 pub returns : goal.returns
 unfolding availability
 returns c = (
-  ap (◌+◌ (c.args.slots / c.args.period * c.args.deadline)) c.smaller-part.ensures,
+  ap (◌+◌ (c.args.slots / c.args.period * c.args.deadline)) c.min.ensures,
   omega (
     arith,
     avail_small c.args.slots c.args.period c.args.deadline c.requires.0 c.requires.1 c.requires.2,
-    c.smaller-part.ensures,
+    c.min.ensures,
   ),
 )

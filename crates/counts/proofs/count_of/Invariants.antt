@@ -8,8 +8,5 @@ use Rattle.counts.specs.Needs.{max_availability}
 use Rattle.counts.proofs.count_of.Given as goal
 
 abbrev pub invariant-loop-i : goal.invariant-loop-i
-invariant-loop-i l = (l.i ≤ l.tasks) × (l.sum ≤ l.i * max_availability)
+invariant-loop-i l = (l.sum ≤ l.i * max_availability)
     × (l.sum ≡ sum (λ i. availability (period l.table i) (deadline l.table i) l.slots) 0 l.i)
-
-abbrev pub decreases-loop-i : goal.decreases-loop-i
-decreases-loop-i l = l.tasks - l.i

@@ -5,7 +5,4 @@ use Rattle.lists.specs.Fill.{Laying}
 use Rattle.counts.proofs.put_counts.Given as goal
 
 abbrev pub invariant-loop-i : goal.invariant-loop-i
-invariant-loop-i l = (l.i ≤ l.tasks) × Laying (free_count l.procs l.table) l.initial.out l.out l.i
-
-abbrev pub decreases-loop-i : goal.decreases-loop-i
-decreases-loop-i l = l.tasks - l.i
+invariant-loop-i l = Laying (free_count l.procs l.table) l.initial.out l.out l.i
