@@ -27,6 +27,21 @@ impl<'a> Model for Case<'a> {
     ghost view = { λ c. case_of c.procs c.policy c.table.now c.end c.trace.now };
 }
 
+impl<'a> Case<'a> {
+    // The same case once more. With lent slices in it a case is not `Copy`, and to lend them again costs nothing.
+    pub fn again(&self) -> Case<'a>
+        ensures { result ≡ self.now }
+    {
+        Case {
+            procs: self.procs,
+            policy: self.policy,
+            table: self.table,
+            end: self.end,
+            trace: self.trace,
+        }
+    }
+}
+
 // A case at which nothing is at fault: whoever makes one shows that it is accepted (crate checks, `accept`).
 #[derive(Drop)]
 pub struct AcceptedCase<'a> {

@@ -2,16 +2,17 @@
 #![tactic(auto)]
 
 ghost use Rattle.std.specs.Prelude.{◌≡◌, ◌+◌, ◌*◌, ◌≤◌, length};
-ghost use Rattle.rules.specs.Case.{case_of};
 ghost use Rattle.rules.specs.Calls.{WritePromise};
 ghost use Rattle.rules.specs.Writer.{policy_text, case_text};
 ghost use Rattle.puts.specs.Laid.{Laid};
 ghost use Rattle.writer.specs.Rows.{rows_text, head_text, tail_text, WholeRows};
 
-use checks::{case_fault, room_fault};
+use cases::Case;
+use checks::case_fault;
+use faults::room_fault;
 use policies::{policy_width, put_policy};
 use puts::{TAB, numbers_width, put_line, put_word, width};
-use rules::{END, POLICY, PROCS, RELEASE, RELEASE_WIDTH, TASK, TASK_WIDTH, Written};
+use rules::{END, Fault, POLICY, PROCS, RELEASE, RELEASE_WIDTH, TASK, TASK_WIDTH};
 
 // Writes the policy line at the start.
 fn put_policy_line(out: &mut [u8], policy: u32) -> usize
@@ -20,7 +21,7 @@ fn put_policy_line(out: &mut [u8], policy: u32) -> usize
 {
     let at = put_word(out, POLICY);
     let end = put_policy(out, at, TAB, policy);
-    out[end] = 10;
+    out[end] = b'\n';
     end + 1
 }
 
@@ -31,13 +32,9 @@ fn put_rows(out: &mut [u8], at: usize, word: u32, width: usize, rows: usize, vs:
     ensures { Laid at (rows_text word width vs.now rows) out.old out.new result }
 {
     let mut end = at;
-    let mut i: usize = 0;
-    while i < rows {
+    for i in 0..rows {
         let from = i * width;
-        let past = from + width;
-        let n = put_line(&mut out[end..], TAB, word, &vs[from..past]);
-        end = end + n;
-        i += 1;
+        end += put_line(&mut out[end..], TAB, word, &vs[from..from + width]);
     }
     end
 }
@@ -71,19 +68,12 @@ fn put_tail(out: &mut [u8], at: usize, end: u32, trace: &[u32]) -> usize
 }
 
 // Writes the text of a case at the start.
-fn put_case(
-    procs: u32,
-    policy: u32,
-    table: &[u32],
-    end: u32,
-    trace: &[u32],
-    out: &mut [u8],
-) -> usize
-    requires { length (case_text (case_of procs policy table.now end trace.now)) ≤ length out.old }
-    ensures { Laid 0 (case_text (case_of procs policy table.now end trace.now)) out.old
-        out.new result }
+fn put_case(case: &Case, out: &mut [u8]) -> usize
+    requires { length (case_text case.now) ≤ length out.old }
+    ensures { Laid 0 (case_text case.now) out.old out.new result }
 {
-    let tasks = put_head(out, procs, policy);
+    let table = case.table;
+    let tasks = put_head(out, case.procs, case.policy);
     let tail = put_rows(
         out,
         tasks,
@@ -92,51 +82,27 @@ fn put_case(
         table.len() / TASK_WIDTH,
         table,
     );
-    put_tail(out, tail, end, trace)
+    put_tail(out, tail, case.end, case.trace)
 }
 
 // How long the text of a case is: a word and a newline a line, and the fields with their tabs.
-fn text_length(procs: u32, policy: u32, table: &[u32], end: u32, trace: &[u32]) -> usize
-    requires { WholeRows table.now trace.now }
-    ensures { result ≡ length (case_text (case_of procs policy table.now end trace.now)) }
+#[tactic(auto, using(texts::specs::Digits::at_most_ten, texts::specs::PolicyNames::name_short, puts::proofs::Lines::numbers_room))]
+fn text_length(case: &Case) -> usize
+    requires { WholeRows case.now.table case.now.trace }
+    ensures { result ≡ length (case_text case.now) }
 {
     // `procs`, `policy` and `end` have one field each, whose tab is counted with the word and the newline
-    let head = 7 + width(procs) + 8 + policy_width(policy);
-    let tasks = table.len() / TASK_WIDTH * 5 + numbers_width(table);
-    let releases = trace.len() / RELEASE_WIDTH * 8 + numbers_width(trace);
-    head + tasks + 5 + width(end) + releases
+    let head = 7 + width(case.procs) + 8 + policy_width(case.policy);
+    let tasks = case.table.len() / TASK_WIDTH * 5 + numbers_width(case.table);
+    let releases = case.trace.len() / RELEASE_WIDTH * 8 + numbers_width(case.trace);
+    head + tasks + 5 + width(case.end) + releases
 }
 
 // Writes the text of a case to the start of `out`, if it is a case and the text fits.
-pub fn write(
-    procs: u32,
-    policy: u32,
-    table: &[u32],
-    end: u32,
-    trace: &[u32],
-    out: &mut [u8],
-) -> Written
-    ensures { WritePromise (case_of procs policy table.now end trace.now)
-        out.old result out.new }
+pub fn write(case: &Case, out: &mut [u8]) -> Result<usize, Fault>
+    ensures { WritePromise case.now out.old result out.new }
 {
-    let found = case_fault(procs, policy, table, end, trace);
-    let number = found.number;
-    if number != 0 {
-        return Written::Refused {
-            number,
-            place: found.place,
-        };
-    }
-    let need = text_length(procs, policy, table, end, trace);
-    let short = room_fault(need, out.len());
-    let number = short.number;
-    if number != 0 {
-        return Written::Refused {
-            number,
-            place: short.place,
-        };
-    }
-    Written::Text {
-        length: put_case(procs, policy, table, end, trace, out),
-    }
+    case_fault(case)?;
+    room_fault(text_length(case), out.len())?;
+    Ok(put_case(case, out))
 }

@@ -11,33 +11,22 @@ use Rattle.writer.proofs.Rows.{rows_none, rows_suc, rows_le, row_is}
 use Rattle.writer.proofs.put_rows.Goals as goal
 
 pub loop-i-init : goal.loop-i-init
-loop-i-init c = rw (rows_none _ _ _) (omega arith, refl, laid_none _ _)
+loop-i-init c = rw (rows_none _ _ _) (refl, laid_none _ _)
 
+-- the line of a row has room in the unused end
 pub slice_bounds-put_line-count : goal.slice_bounds-put_line-count
-slice_bounds-put_line-count c =
-    -- its line has room in the unused end
-    let room : c.loop-i.end + length (row_text c.args.word c.args.width c.args.vs.now c.loop-i.i) ≤ length c.loop-i.out = let l =
-    c.loop-i in
-    let a = c.args in
-    omega (arith, l.invariant.2.behind, rows_le a.word a.width a.vs.now l.i a.rows c.loop-i-test.true) in
-    omega (arith, room)
+slice_bounds-put_line-count c = omega (arith, c.loop-i.invariant.1.behind, rows_le c.args.word c.args.width c.args.vs.now c.loop-i.i c.args.rows c.loop-i-test.true)
 
 pub slice_bounds-put_line-start : goal.slice_bounds-put_line-start
-slice_bounds-put_line-start c =
-    -- its line has room in the unused end
-    let room : c.loop-i.end + length (row_text c.args.word c.args.width c.args.vs.now c.loop-i.i) ≤ length c.loop-i.out = let l =
-    c.loop-i in
-    let a = c.args in
-    omega (arith, l.invariant.2.behind, rows_le a.word a.width a.vs.now l.i a.rows c.loop-i-test.true) in
-    omega (arith, room)
+slice_bounds-put_line-start c = omega (arith, c.loop-i.invariant.1.behind, rows_le c.args.word c.args.width c.args.vs.now c.loop-i.i c.args.rows c.loop-i-test.true)
 
-pub put_line-n-requires : goal.put_line-n-requires
-put_line-n-requires c =
+pub put_line-end-requires : goal.put_line-end-requires
+put_line-end-requires c =
     -- its line has room in the unused end
     let room : c.loop-i.end + length (row_text c.args.word c.args.width c.args.vs.now c.loop-i.i) ≤ length c.loop-i.out = let l =
     c.loop-i in
     let a = c.args in
-    omega (arith, l.invariant.2.behind, rows_le a.word a.width a.vs.now l.i a.rows c.loop-i-test.true) in
+    omega (arith, l.invariant.1.behind, rows_le a.word a.width a.vs.now l.i a.rows c.loop-i-test.true) in
     let l = c.loop-i in
     let a = c.args in
     omega (arith, room, part_length l.end l.out, ap length (row_is a.word a.width a.vs.now l.i))
@@ -48,13 +37,13 @@ overflow_add-end c =
     let room : c.loop-i.end + length (row_text c.args.word c.args.width c.args.vs.now c.loop-i.i) ≤ length c.loop-i.out = let l =
     c.loop-i in
     let a = c.args in
-    omega (arith, l.invariant.2.behind, rows_le a.word a.width a.vs.now l.i a.rows c.loop-i-test.true) in
+    omega (arith, l.invariant.1.behind, rows_le a.word a.width a.vs.now l.i a.rows c.loop-i-test.true) in
     -- the row is laid behind those before it
     let laid : Laid c.loop-i.end (row_text c.args.word c.args.width c.args.vs.now c.loop-i.i) c.loop-i.out (put_mid c.loop-i.end (length
-    c.loop-i.out - c.loop-i.end) c.loop-i.out c.put_line-n.new.out) (c.loop-i.end + c.put_line-n.result) = let l = c.loop-i in
+    c.loop-i.out - c.loop-i.end) c.loop-i.out c.put_line-end.new.out) (c.loop-i.end + c.put_line-end.result) = let l = c.loop-i in
     let a = c.args in
     rw (row_is a.word a.width a.vs.now l.i)
-    (laid_part l.end _ l.out _ _ (omega (arith, room)) c.put_line-n.ensures) in
+    (laid_part l.end _ l.out _ _ (omega (arith, room)) c.put_line-end.ensures) in
     omega (arith, room, laid.behind)
 
 pub loop-i-preserved : goal.loop-i-preserved
@@ -63,17 +52,16 @@ loop-i-preserved c =
     let room : c.loop-i.end + length (row_text c.args.word c.args.width c.args.vs.now c.loop-i.i) ≤ length c.loop-i.out = let l =
     c.loop-i in
     let a = c.args in
-    omega (arith, l.invariant.2.behind, rows_le a.word a.width a.vs.now l.i a.rows c.loop-i-test.true) in
+    omega (arith, l.invariant.1.behind, rows_le a.word a.width a.vs.now l.i a.rows c.loop-i-test.true) in
     -- the row is laid behind those before it
     let laid : Laid c.loop-i.end (row_text c.args.word c.args.width c.args.vs.now c.loop-i.i) c.loop-i.out (put_mid c.loop-i.end (length
-    c.loop-i.out - c.loop-i.end) c.loop-i.out c.put_line-n.new.out) (c.loop-i.end + c.put_line-n.result) = let l = c.loop-i in
+    c.loop-i.out - c.loop-i.end) c.loop-i.out c.put_line-end.new.out) (c.loop-i.end + c.put_line-end.result) = let l = c.loop-i in
     let a = c.args in
     rw (row_is a.word a.width a.vs.now l.i)
-    (laid_part l.end _ l.out _ _ (omega (arith, room)) c.put_line-n.ensures) in
+    (laid_part l.end _ l.out _ _ (omega (arith, room)) c.put_line-end.ensures) in
     let l = c.loop-i in
     let a = c.args in
     let new = laid in (
-      omega arith,
-      laid_length new ∙ l.invariant.1,
-      rw (rows_suc a.word a.width a.vs.now l.i) (laid_then l.invariant.2 new),
+      laid_length new ∙ l.invariant.0,
+      rw (rows_suc a.word a.width a.vs.now l.i) (laid_then l.invariant.1 new),
     )

@@ -8,7 +8,4 @@ use Rattle.writer.proofs.put_rows.Given as goal
 
 abbrev pub invariant-loop-i : goal.invariant-loop-i
 invariant-loop-i l =
-    (l.i ≤ l.rows) × (length l.out ≡ length l.initial.out) × Laid l.at (rows_text l.word l.width l.vs l.i) l.initial.out l.out l.end
-
-abbrev pub decreases-loop-i : goal.decreases-loop-i
-decreases-loop-i l = l.rows - l.i
+    (length l.out ≡ length l.initial.out) × Laid l.at (rows_text l.word l.width l.vs l.i) l.initial.out l.out l.end

@@ -1,70 +1,32 @@
 -- `writer::write` meets its contract: a case at fault, no room, or the text.
-use mathlib.Core.Path.{◌≡◌, sym, ap, ◌∙◌}
-use lib.ListN.{length}
-use Rattle.rules.specs.declared.Fault.{Fault}
-use Rattle.rules.specs.Case.{Case, case_of}
-use Rattle.rules.specs.Refusals.{case_fault, room_fault}
-use Rattle.rules.specs.Writer.{case_text}
+use Rattle.std.proofs.Common.{sym, ap, ◌∙◌, length}
+use Rattle.std.proofs.lemmas.Result.{err_from_is_err_and}
+use Rattle.rules.specs.Refusals.{checked, room_fault}
+use Rattle.legal.specs.Firsts.{clear_checked}
 use Rattle.legal.specs.Passing.{room_clear}
-use Rattle.writer.proofs.Answers.{whole, case_at_fault, room_at_fault, none_at_fault, refused, written}
+use Rattle.writer.proofs.Answers.{whole, case_at_fault, then_room, refused, written}
 use Rattle.writer.proofs.write.Goals as goal
 
-pub returns-then-number-ne0 : goal.returns-then-number-ne0
-returns-then-number-ne0 c =
-    -- the case
-    let case : Case = case_of c.args.procs c.args.policy c.args.table.now c.args.end c.args.trace.now in
-    let f = c.case_fault-found in
-    let room = c.args.out.now in
-    refused case room f.result
-    (case_at_fault case (length room) f.result f.ensures c.if-number-ne0.true)
-    c.if-number-ne0.true
+pub returns-in_err-case_fault : goal.returns-in_err-case_fault
+returns-in_err-case_fault c =
+    let p = err_from_is_err_and c.from_residual.result c.from_residual.ensures.1 in
+    rw (p.1, p.2) (refused _ _ _ (case_at_fault c.args.case.now _ _ (sym c.case_fault.ensures ∙ c.in_err-case_fault.was)))
 
-pub text_length-need-requires : goal.text_length-need-requires
-text_length-need-requires c =
-    -- the case
-    let case : Case = case_of c.args.procs c.args.policy c.args.table.now c.args.end c.args.trace.now in
-    -- past the first test the case has no fault
-    let clear : (case_fault case).number ≡ 0 = ap (λ (f : Fault). f.number) (sym c.case_fault-found.ensures) ∙ c.if-number-ne0.false in
-    whole case clear
+pub text_length-requires : goal.text_length-requires
+text_length-requires c = whole c.args.case.now (clear_checked _ (sym c.case_fault.ensures ∙ c.in_ok-case_fault.was))
 
-pub returns-then-number-ne0-2 : goal.returns-then-number-ne0-2
-returns-then-number-ne0-2 c =
-    -- the case
-    let case : Case = case_of c.args.procs c.args.policy c.args.table.now c.args.end c.args.trace.now in
-    -- past the first test the case has no fault
-    let clear : (case_fault case).number ≡ 0 = ap (λ (f : Fault). f.number) (sym c.case_fault-found.ensures) ∙ c.if-number-ne0.false in
-    -- what the room's test found
-    let tested : c.room_fault-short.result ≡ room_fault (length (case_text case)) (length c.args.out.now) = c.room_fault-short.ensures
-    ∙ rw c.text_length-need.ensures in
-    let f = c.room_fault-short in
-    let room = c.args.out.now in
-    refused case room f.result (room_at_fault case (length room) f.result clear
-    tested c.if-number-ne0-2.true) c.if-number-ne0-2.true
+pub returns-in_err-room_fault : goal.returns-in_err-room_fault
+returns-in_err-room_fault c =
+    let p = err_from_is_err_and c.from_residual-in_err-room_fault.result c.from_residual-in_err-room_fault.ensures.1 in
+    let no_room = rw c.text_length.ensures at (sym c.room_fault.ensures ∙ c.in_err-room_fault.was) in
+    let legal = sym c.case_fault.ensures ∙ c.in_ok-case_fault.was in
+    rw (p.1, p.2) (refused _ _ _ (then_room c.args.case.now _ legal ∙ no_room))
 
 pub put_case-requires : goal.put_case-requires
-put_case-requires c =
-    -- the case
-    let case : Case = case_of c.args.procs c.args.policy c.args.table.now c.args.end c.args.trace.now in
-    -- what the room's test found
-    let tested : c.room_fault-short.result ≡ room_fault (length (case_text case)) (length c.args.out.now) = c.room_fault-short.ensures
-    ∙ rw c.text_length-need.ensures in
-    -- past the second test the text fits
-    let enough : (room_fault (length (case_text case)) (length c.args.out.now)).number ≡ 0 = ap (λ (f : Fault). f.number) (sym tested)
-    ∙ c.if-number-ne0-2.false in
-    room_clear _ _ enough
+put_case-requires c = room_clear _ _ (clear_checked _ (rw c.text_length.ensures at (sym c.room_fault.ensures ∙ c.in_ok-room_fault.was)))
 
 pub returns : goal.returns
 returns c =
-    -- the case
-    let case : Case = case_of c.args.procs c.args.policy c.args.table.now c.args.end c.args.trace.now in
-    -- past the first test the case has no fault
-    let clear : (case_fault case).number ≡ 0 = ap (λ (f : Fault). f.number) (sym c.case_fault-found.ensures) ∙ c.if-number-ne0.false in
-    -- what the room's test found
-    let tested : c.room_fault-short.result ≡ room_fault (length (case_text case)) (length c.args.out.now) = c.room_fault-short.ensures
-    ∙ rw c.text_length-need.ensures in
-    -- past the second test the text fits
-    let enough : (room_fault (length (case_text case)) (length c.args.out.now)).number ≡ 0 = ap (λ (f : Fault). f.number) (sym tested)
-    ∙ c.if-number-ne0-2.false in
-    let room = c.args.out.now in
-    written case room _ _ (none_at_fault case (length room) clear enough)
-    (room_clear _ _ enough) c.put_case.ensures
+    let legal = sym c.case_fault.ensures ∙ c.in_ok-case_fault.was in
+    let fits = rw c.text_length.ensures at (sym c.room_fault.ensures ∙ c.in_ok-room_fault.was) in
+    written _ _ _ _ (then_room c.args.case.now _ legal ∙ fits) (room_clear _ _ (clear_checked _ fits)) c.put_case.ensures
