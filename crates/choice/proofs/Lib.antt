@@ -1,6 +1,6 @@
 pub mod Marks
 pub mod Order
-pub mod Scans
+pub mod Extremes
 pub mod Keys
 pub mod Passes
 pub mod Choice

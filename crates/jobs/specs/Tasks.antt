@@ -1,18 +1,13 @@
 -- What the steps of a slot make of one job and of one task, beside the definitions of rules, Slot, which speak of a whole run; and what
 -- step 2 needs of the table.
-use Rattle.std.specs.Prelude.{ℕ, suc, ◌+◌, ◌≤◌, ◌<◌, Bool, true, false, List}
+use Rattle.std.specs.Prelude.{ℕ, suc, ◌+◌, ◌≤◌, ◌<◌, Bool, List}
 use Rattle.rules.specs.Words.{pick}
 use Rattle.rules.specs.Limits.{max_period}
 use Rattle.rules.specs.Case.{task_count, execution, deadline}
 use Rattle.rules.specs.Slot.{left_of, due_of, with_job, judged_task, lowered_job, worked_job}
 use Rattle.rules.specs.declared.Job.{Job}
-use Rattle.rules.specs.declared.Job.TheVariants.{Idle, Normal, Demoted}
+use Rattle.rules.specs.declared.Job.TheVariants.{Normal, Demoted}
 use Rattle.rules.specs.declared.Task.{Task}
-
-abbrev pub is_normal : Job → Bool
-is_normal Idle = false
-is_normal (Normal left free due) = true
-is_normal (Demoted left due) = false
 
 -- a time so early that neither the next time nor a deadline is past 32 bits
 abbrev pub Early : ℕ → Type 0

@@ -4,12 +4,10 @@
 ghost use Rattle.std.specs.Prelude.{◌≡◌, true, ◌&&◌, ◌||◌, ◌+◌, ◌<◌, leb};
 ghost use Rattle.rules.specs.Words.{bit};
 ghost use Rattle.rules.specs.Limits.{max_tasks};
-ghost use Rattle.rules.specs.Slot.{is_present, is_demoted, left_of, free_of, due_of, is_missed, judged_task, demotes, is_demoted_now};
-ghost use Rattle.rules.specs.Slot.{lowered_job};
-ghost use Rattle.rules.specs.Slot.{lowered_task, is_last, worked_job, worked_task};
+ghost use Rattle.rules.specs.Slot.{is_present, is_demoted, left_of, free_of, due_of, is_missed, judged_task, is_demoted_now};
+ghost use Rattle.rules.specs.Slot.{lowered_job, lowered_task, is_last, worked_job, worked_task};
 ghost use Rattle.rules.specs.Policies.{demoting};
-ghost use Rattle.jobs.specs.Tasks.{is_normal, Early, Startable, started_task, readied_task, demoted_job, demoted_if, lowered_if};
-ghost use Rattle.jobs.specs.Tasks.{worked_if, worked_on};
+ghost use Rattle.jobs.specs.Tasks.{Early, Startable, started_task, readied_task, demoted_job, demoted_if, worked_on};
 
 use rules::{Job, Task};
 
@@ -18,43 +16,13 @@ use rules::{Job, Task};
 pub fn has_job(j: Job) -> bool
     ensures { result ≡ is_present j }
 {
-    match j {
-        Job::Idle => false,
-        Job::Normal {
-            left: _,
-            free: _,
-            due: _,
-        } => true,
-        Job::Demoted { left: _, due: _ } => true,
-    }
-}
-
-fn is_normal(j: Job) -> bool
-    ensures { result ≡ is_normal j }
-{
-    match j {
-        Job::Idle => false,
-        Job::Normal {
-            left: _,
-            free: _,
-            due: _,
-        } => true,
-        Job::Demoted { left: _, due: _ } => false,
-    }
+    !matches!(j, Job::Idle)
 }
 
 pub fn is_demoted(j: Job) -> bool
     ensures { result ≡ is_demoted j }
 {
-    match j {
-        Job::Idle => false,
-        Job::Normal {
-            left: _,
-            free: _,
-            due: _,
-        } => false,
-        Job::Demoted { left: _, due: _ } => true,
-    }
+    matches!(j, Job::Demoted { .. })
 }
 
 pub fn left_of(j: Job) -> u32
@@ -62,12 +30,7 @@ pub fn left_of(j: Job) -> u32
 {
     match j {
         Job::Idle => 0,
-        Job::Normal {
-            left,
-            free: _,
-            due: _,
-        } => left as u32,
-        Job::Demoted { left, due: _ } => left as u32,
+        Job::Normal { left, .. } | Job::Demoted { left, .. } => u32::from(left),
     }
 }
 
@@ -75,13 +38,8 @@ pub fn free_of(j: Job) -> u32
     ensures { result ≡ free_of j }
 {
     match j {
-        Job::Idle => 0,
-        Job::Normal {
-            left: _,
-            free,
-            due: _,
-        } => free as u32,
-        Job::Demoted { left: _, due: _ } => 0,
+        Job::Normal { free, .. } => u32::from(free),
+        Job::Idle | Job::Demoted { .. } => 0,
     }
 }
 
@@ -90,12 +48,7 @@ pub fn due_of(j: Job) -> u32
 {
     match j {
         Job::Idle => 0,
-        Job::Normal {
-            left: _,
-            free: _,
-            due,
-        } => due,
-        Job::Demoted { left: _, due } => due,
+        Job::Normal { due, .. } | Job::Demoted { due, .. } => due,
     }
 }
 
@@ -110,7 +63,7 @@ pub fn is_last(j: Job) -> bool
 pub fn can_change(j: Job, released: bool) -> bool
     ensures { result ≡ (released || is_present j) }
 {
-    if released { true } else { has_job(j) }
+    released || has_job(j)
 }
 
 // ---- step 1: an unfinished job whose deadline is now is removed as missed
@@ -118,22 +71,16 @@ pub fn can_change(j: Job, released: bool) -> bool
 pub fn is_missed(j: Job, clock: u32) -> bool
     ensures { result ≡ is_missed clock j }
 {
-    if has_job(j) {
-        due_of(j) == clock
-    } else {
-        false
-    }
+    has_job(j) && due_of(j) == clock
 }
 
 pub fn judged_task(t: Task, clock: u32) -> Task
     ensures { result ≡ judged_task clock t }
 {
-    let j = t.job;
-    if is_missed(j, clock) {
+    if is_missed(t.job, clock) {
         Task {
-            number: t.number,
-            last: t.last,
             job: Job::Idle,
+            ..t
         }
     } else {
         t
@@ -148,18 +95,17 @@ pub fn readied_task(t: Task, table: &[u32], i: usize, free: u32, released: bool,
     requires startable { released ≡ true → Startable table.now i free }
     ensures { result ≡ readied_task table.now i free released clock t }
 {
-    let next = clock + 1;
     if released {
         let execution = cases::execution_of(table, i);
         let due = clock + cases::deadline_of(table, i);
         Task {
-            number: t.number,
-            last: next,
+            last: clock + 1,
             job: Job::Normal {
                 left: execution as u16,
                 free: free as u16,
-                due: due,
+                due,
             },
+            ..t
         }
     } else {
         judged_task(t, clock)
@@ -168,48 +114,24 @@ pub fn readied_task(t: Task, table: &[u32], i: usize, free: u32, released: bool,
 
 // ---- step 3: a normal job whose free count is at least its remaining execution is demoted
 
-fn demotes(free: u32, left: u32) -> bool
-    ensures { result ≡ demotes free left }
-{
-    left <= free
-}
-
 fn is_demoted_now(j: Job) -> bool
     ensures { result ≡ is_demoted_now j }
 {
-    if is_normal(j) {
-        let free = free_of(j);
-        let left = left_of(j);
-        demotes(free, left)
-    } else {
-        false
-    }
+    matches!(j, Job::Normal { left, free, .. } if left <= free)
 }
 
 // Whether step 3 demotes the job of a task.
 pub fn is_demoted_under(t: Task, policy: u32) -> bool
     ensures { result ≡ (demoting policy && is_demoted_now t.job) }
 {
-    let j = t.job;
-    if policies::is_demoting(policy) {
-        is_demoted_now(j)
-    } else {
-        false
-    }
+    policies::is_demoting(policy) && is_demoted_now(t.job)
 }
 
 // Whether steps 1 to 3 change a task: it is released, or its job is missed or demoted. In most slots none is.
 pub fn is_changed(t: Task, released: bool, policy: u32, clock: u32) -> bool
     ensures { result ≡ (released || is_missed clock t.job || (demoting policy && is_demoted_now t.job)) }
 {
-    let j = t.job;
-    if released {
-        return true;
-    }
-    if is_missed(j, clock) {
-        return true;
-    }
-    is_demoted_under(t, policy)
+    released || is_missed(t.job, clock) || is_demoted_under(t, policy)
 }
 
 fn demoted_job(j: Job) -> Job
@@ -217,11 +139,7 @@ fn demoted_job(j: Job) -> Job
 {
     match j {
         Job::Idle => Job::Demoted { left: 0, due: 0 },
-        Job::Normal { left, free: _, due } => Job::Demoted {
-            left: left,
-            due: due,
-        },
-        Job::Demoted { left: _, due: _ } => j,
+        Job::Normal { left, due, .. } | Job::Demoted { left, due } => Job::Demoted { left, due },
     }
 }
 
@@ -229,12 +147,9 @@ pub fn demoted_task(t: Task, is: bool) -> Task
     ensures { result ≡ demoted_if is t }
 {
     if is {
-        let j = t.job;
-        let k = demoted_job(j);
         Task {
-            number: t.number,
-            last: t.last,
-            job: k,
+            job: demoted_job(t.job),
+            ..t
         }
     } else {
         t
@@ -248,7 +163,7 @@ pub fn counted(jobs: usize, j: Job) -> usize
     requires { jobs < max_tasks }
     ensures { result ≡ jobs + bit (is_present j) }
 {
-    if has_job(j) { jobs + 1 } else { jobs }
+    jobs + usize::from(has_job(j))
 }
 
 pub fn is_contention_free(jobs: usize, procs: u32) -> bool
@@ -261,48 +176,29 @@ pub fn is_contention_free(jobs: usize, procs: u32) -> bool
 pub fn is_lowering(jobs: usize, procs: u32, policy: u32) -> bool
     ensures { result ≡ (demoting policy && leb jobs procs) }
 {
-    let lowering = policies::is_demoting(policy);
-    if lowering {
-        is_contention_free(jobs, procs)
-    } else {
-        false
-    }
+    policies::is_demoting(policy) && is_contention_free(jobs, procs)
 }
 
 fn lowered_job(j: Job) -> Job
     ensures { result ≡ lowered_job j }
 {
     match j {
-        Job::Idle => Job::Idle,
-        Job::Normal { left, free, due } => if 0 < free {
-            Job::Normal {
-                left: left,
-                free: free - 1,
-                due: due,
-            }
-        } else {
-            j
+        Job::Normal { left, free, due } => Job::Normal {
+            left,
+            free: free.saturating_sub(1),
+            due,
         },
-        Job::Demoted { left: _, due: _ } => j,
+        Job::Idle | Job::Demoted { .. } => j,
     }
-}
-
-fn lowered_if(j: Job, lowers: bool) -> Job
-    ensures { result ≡ lowered_if lowers j }
-{
-    if lowers { lowered_job(j) } else { j }
 }
 
 // Step 4 for the task.
 pub fn lowered_task(t: Task) -> Task
     ensures { result ≡ lowered_task t }
 {
-    let j = t.job;
-    let k = lowered_job(j);
     Task {
-        number: t.number,
-        last: t.last,
-        job: k,
+        job: lowered_job(t.job),
+        ..t
     }
 }
 
@@ -318,32 +214,23 @@ fn worked_job(j: Job) -> Job
         Job::Idle => Job::Idle,
         Job::Normal { left, free, due } => Job::Normal {
             left: left - 1,
-            free: free,
-            due: due,
+            free,
+            due,
         },
         Job::Demoted { left, due } => Job::Demoted {
             left: left - 1,
-            due: due,
+            due,
         },
     }
-}
-
-fn worked_if(j: Job, runs: bool) -> Job
-    ensures { result ≡ worked_if runs j }
-{
-    if runs { worked_job(j) } else { j }
 }
 
 // Step 6 for a task that runs.
 pub fn run_task(t: Task) -> Task
     ensures { result ≡ worked_task t }
 {
-    let j = t.job;
-    let k = worked_job(j);
     Task {
-        number: t.number,
-        last: t.last,
-        job: k,
+        job: worked_job(t.job),
+        ..t
     }
 }
 
@@ -351,19 +238,14 @@ pub fn run_task(t: Task) -> Task
 pub fn worked_task(t: Task, lowers: bool, runs: bool) -> Task
     ensures { result ≡ worked_on lowers runs t }
 {
-    let j = t.job;
-    let k = lowered_if(j, lowers);
-    let l = worked_if(k, runs);
-    Task {
-        number: t.number,
-        last: t.last,
-        job: l,
-    }
+    let lowered = if lowers { lowered_job(t.job) } else { t.job };
+    let job = if runs { worked_job(lowered) } else { lowered };
+    Task { job, ..t }
 }
 
 // Whether a job finishes in the slot: it runs its last unit.
 pub fn is_finished(j: Job, runs: bool) -> bool
     ensures { result ≡ (runs && is_last j) }
 {
-    if runs { is_last(j) } else { false }
+    runs && is_last(j)
 }

@@ -17,7 +17,7 @@ use Rattle.rules.specs.declared.Run.{Run}
 use Rattle.lists.specs.Sums.{count_le}
 use Rattle.lists.specs.Holds.{holds_says, holds_same}
 use Rattle.choice.specs.Turns.{turn, turn-sooner, idle_due, low_turn}
-use Rattle.rule.proofs.Extremes.{least, greatest, least_top, extremes}
+use Rattle.choice.proofs.Extremes.{least, greatest, least_top, extremes}
 
 -- no turn of a job that waits: the largest number of 64 bits
 abbrev pub no_turn : ℕ

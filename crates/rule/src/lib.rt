@@ -3,7 +3,7 @@
 // of one that runs.
 #![tactic(auto)]
 
-ghost use Rattle.std.specs.Prelude.{◌≡◌, List, ℕ, min, max};
+ghost use Rattle.std.specs.Prelude.{◌≡◌, List, ℕ};
 ghost use Rattle.rules.specs.Words.{holds_below};
 ghost use Rattle.rules.specs.Limits.{max_tasks};
 ghost use Rattle.rules.specs.Slot.{setup_of, present, jobs_now};
@@ -13,28 +13,14 @@ ghost use Rattle.rule.specs.NoneWait.{same_at, absent};
 
 use rules::{MAX_TASKS, Run};
 
-fn lesser(a: u64, b: u64) -> u64
-    ensures { result ≡ min a b }
-{
-    if b < a { b } else { a }
-}
-
-fn greater(a: u64, b: u64) -> u64
-    ensures { result ≡ max a b }
-{
-    if a < b { b } else { a }
-}
-
 // Whether nobody is named, which is all that the rule asks where no task has a job. The loop has no early exit: all tasks are looked at
 // alike, so that many can be at once.
 pub fn is_nobody(named: &[bool; MAX_TASKS]) -> bool
     ensures { result ≡ holds_below (absent (members named.now)) max_tasks }
 {
     let mut none = true;
-    let mut i: usize = 0;
-    while i < MAX_TASKS {
-        none = none & !named[i];
-        i += 1;
+    for is_named in named {
+        none &= !*is_named;
     }
     none
 }
@@ -44,12 +30,8 @@ fn all_run(r: Run, named: &[bool; MAX_TASKS]) -> bool
     ensures { result ≡ holds_below (same_at (present r) (members named.now)) max_tasks }
 {
     let mut same = true;
-    let mut i: usize = 0;
-    while i < MAX_TASKS {
-        let t = r.tasks[i];
-        let j = t.job;
-        same = same & (jobs::has_job(j) == named[i]);
-        i += 1;
+    for (i, t) in r.tasks.iter().enumerate() {
+        same &= jobs::has_job(t.job) == named[i];
     }
     same
 }
@@ -71,32 +53,25 @@ pub fn keeps(
     if jobs <= procs as usize {
         return all_run(r, named);
     }
-    let mut count: u64 = 0;
+    let mut count = 0;
     let mut all_there = true;
-    let mut waiting: u64 = 18446744073709551615;
-    let mut running: u64 = 0;
-    let mut i: usize = 0;
-    while i < MAX_TASKS {
-        let t = r.tasks[i];
-        let j = t.job;
-        let there = jobs::has_job(j);
+    let mut waiting = u64::MAX;
+    let mut running = 0;
+    for (i, t) in r.tasks.iter().enumerate() {
+        let there = jobs::has_job(t.job);
         if named[i] {
             count += 1;
             if there {
-                running = greater(running, choice::turn_of(j, policy, clock));
+                running = running.max(choice::turn_of(t.job, policy, clock));
             } else {
                 all_there = false;
             }
         } else if there {
-            waiting = lesser(waiting, choice::turn_of(j, policy, clock));
+            waiting = waiting.min(choice::turn_of(t.job, policy, clock));
         }
-        i += 1;
     }
-    if count != lesser(procs as u64, jobs as u64) {
+    if count != procs as usize {
         return false;
     }
-    if waiting < running {
-        return false;
-    }
-    all_there
+    running <= waiting && all_there
 }

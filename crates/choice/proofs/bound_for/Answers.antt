@@ -17,13 +17,9 @@ returns-then-rest-m c =
       keys_all c.args.policy c.args.clock c.args.r c.requires.short,
     )
 
-pub raised-requires-then-m-n : goal.raised-requires-then-m-n
-raised-requires-then-m-n c =
-    record {
-      short = c.requires.short;
-      by_bound =
-          omega (arith, c.requires.jobs_value, c.requires.m_le_jobs, keys_none c.args.policy c.args.clock c.args.r);
-    }
+pub raised-requires-then-m-n-clause-more_bound : goal.raised-requires-then-m-n-clause-more_bound
+raised-requires-then-m-n-clause-more_bound c =
+    omega (arith, c.requires.jobs_value, c.requires.m_le_jobs, keys_none c.args.policy c.args.clock c.args.r)
 
 pub returns-then-m-n : goal.returns-then-m-n
 returns-then-m-n c =

@@ -1,10 +1,12 @@
 -- `rule::is_nobody` meets its contract.
 use mathlib.Core.Path.{refl}
-use Rattle.rule.proofs.Holding.{holding_none, holding_more}
+use Rattle.rules.specs.Words.{holds_below}
+use Rattle.lists.specs.Holds.{holds_more}
 use Rattle.rule.proofs.is_nobody.Goals as goal
 
-pub loop-i-init : goal.loop-i-init
-loop-i-init c = holding_none _
+pub loop-is_named-init : goal.loop-is_named-init
+unfolding holds_below
+loop-is_named-init c = refl
 
-pub loop-i-preserved : goal.loop-i-preserved
-loop-i-preserved c = holding_more _ _ _ _ c.loop-i-test.true c.loop-i.invariant refl
+pub loop-is_named-preserved : goal.loop-is_named-preserved
+loop-is_named-preserved c = holds_more _ _ _ _ c.loop-is_named.invariant refl

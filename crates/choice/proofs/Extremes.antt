@@ -9,9 +9,15 @@ use native.Mathlib.Decide.{dec_le}
 use native.Mathlib.Omega.{arith}
 use lib.Dec.{ltb}
 use borrow.Author.Tests.{lt-ltb, le-ltb, ltb-true, ltb-false}
+use Rattle.std.specs.Ordering.{nat_cmp, ord_max}
+use Rattle.std.proofs.lemmas.Grind.{common_steps}
 use Rattle.rules.specs.Words.{holds_below}
 use Rattle.lists.specs.Holds.{holds_says, holds_of}
 use Rattle.lists.specs.Tests.{never_true}
+
+-- what `a.max(b)` answers is the greater of the two
+pub max_is : (a b : ℕ) → ord_max nat_cmp a b ≡ max a b
+max_is a b = grind (arith, common_steps)
 
 -- the least of f 0, .., f (n - 1), and `top` where none is lower
 unfoldable pub least : ℕ → (ℕ → ℕ) → ℕ → ℕ
@@ -28,7 +34,7 @@ unfolding least
 least_top top f zero = omega arith
 least_top top f (suc n) = omega (arith, least_top top f n)
 
-least_low : (top : ℕ) (f : ℕ → ℕ) (n j : ℕ) → j < n → least top f n ≤ f j
+pub least_low : (top : ℕ) (f : ℕ → ℕ) (n j : ℕ) → j < n → least top f n ≤ f j
 unfolding least
 least_low top f zero j l = absurd (omega arith)
 least_low top f (suc n) j l = go (least_low top f n j) (eq-or-lt_of_le {n = j} {m = n} (omega arith))
@@ -49,7 +55,15 @@ least_one top f (suc n) = go (least_one top f n) (dec_le (least top f n) (f n))
     go (inl e) (yes h) = inl (omega arith)
     go (inr x) (yes h) = inr (x.0, (omega (arith, x.1.0), omega (arith, x.1.1)))
 
-greatest_high : (f : ℕ → ℕ) (n i : ℕ) → i < n → f i ≤ greatest f n
+-- where one of them is below the top, it is one of them
+pub least_found : (top : ℕ) (f : ℕ → ℕ) (n j : ℕ) → j < n → f j < top → (i : ℕ) × ((i < n) × (f i ≡ least top f n))
+least_found top f n j l h = go (least_one top f n)
+  where
+    go : (least top f n ≡ top) ⊎ ((i : ℕ) × ((i < n) × (f i ≡ least top f n))) → (i : ℕ) × ((i < n) × (f i ≡ least top f n))
+    go (inl e) = absurd (omega (arith, e, h, least_low top f n j l))
+    go (inr x) = x
+
+pub greatest_high : (f : ℕ → ℕ) (n i : ℕ) → i < n → f i ≤ greatest f n
 unfolding greatest
 greatest_high f zero i l = absurd (omega arith)
 greatest_high f (suc n) i l = go (greatest_high f n i) (eq-or-lt_of_le {n = i} {m = n} (omega arith))
@@ -69,6 +83,14 @@ greatest_one f (suc n) = go (greatest_one f n) (dec_le (f n) (greatest f n))
     go x (no h) = inr (n, (omega arith, omega arith))
     go (inl e) (yes h) = inl (omega arith)
     go (inr x) (yes h) = inr (x.0, (omega (arith, x.1.0), omega (arith, x.1.1)))
+
+-- where there are any, it is one of them
+pub greatest_found : (f : ℕ → ℕ) (n j : ℕ) → j < n → (i : ℕ) × ((i < n) × (f i ≡ greatest f n))
+greatest_found f n j l = go (greatest_one f n)
+  where
+    go : (greatest f n ≡ 0) ⊎ ((i : ℕ) × ((i < n) × (f i ≡ greatest f n))) → (i : ℕ) × ((i < n) × (f i ≡ greatest f n))
+    go (inl e) = (j, (l, omega (arith, e, greatest_high f n j l)))
+    go (inr x) = x
 
 -- none of the fs is below any of the gs just where the least of the fs is not below the greatest of the gs
 module _ (top : ℕ) (f g : ℕ → ℕ) (n : ℕ) (within : (i : ℕ) → i < n → g i ≤ top) where
