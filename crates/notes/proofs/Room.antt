@@ -6,17 +6,15 @@ use native.Mathlib.Numerals.{add-one}
 use native.Mathlib.Nat.{zero-add}
 use native.Mathlib.Omega.{arith}
 use mathlib.Core.Bool.{Bool, true, false}
-use mathlib.Core.Logic.{◌⊎◌, inl, inr}
-use native.Mathlib.Nat.{eq-or-lt_of_le}
-use lib.ListN.{length, get_or, set, drop, length-set}
+use lib.ListN.{length, get_or, set, drop}
 use Rattle.bridge.specs.Events.{entry}
 use lib.Seq.{drop-cons}
-use Rattle.rules.specs.Words.{tab, sum, count_in}
+use Rattle.rules.specs.Words.{bit, tab, sum, count_in}
 use Rattle.rules.specs.Limits.{record_width}
 use Rattle.rules.specs.Replay.{Record, numbers}
 use Rattle.lists.specs.Lists.{tab_long, tab_snoc}
 use Rattle.bridge.specs.Notes.{numbers_long, put3, event_at, note_one, note_to}
-use Rattle.notes.specs.Noted.{Uneventful, open_record}
+use Rattle.notes.specs.Noted.{open_record}
 
 set3 : (p rest : List ℕ) (x y z a b c n : ℕ) → length p ≡ n
     → set (set (set (p ++ x ∷ y ∷ z ∷ rest) n a) (n + 1) b) (n + 2) c ≡ p ++ a ∷ b ∷ c ∷ rest
@@ -57,16 +55,6 @@ open_next xs j h =
     sym (rw (tab_snoc (λ (j : ℕ). open_record) 0 j, numbers_snoc (tab (λ j. open_record) 0 j) open_record)
     (append_assoc (opens j) (3 ∷ 0 ∷ 0 ∷ []) (drop (suc (suc (suc n))) xs))))
 
--- three stores are a record's store
-pub stores : (xs : List ℕ) (p v f d : ℕ) (r : Record) → v ≡ r.verdict → f ≡ r.finish → d ≡ r.demotion
-    → set (set (set xs (p * record_width) v) (p * record_width + 1) f) (p * record_width + 2) d ≡ put3 xs p r
-unfolding put3
-stores xs p v f d r a b e = rw (a, b, e)
-
-pub put3_long : (xs : List ℕ) (p : ℕ) (r : Record) → length (put3 xs p r) ≡ length xs
-unfolding put3
-put3_long xs p r = simp length-set
-
 -- ---- the stores of one slot, one task more
 module _ (t : ℕ) (place : List ℕ) (fin dem missed : List Bool) (i : ℕ) (xs out new : List ℕ)
     (so_far : out ≡ note_to t place fin dem missed i xs) where
@@ -82,20 +70,7 @@ module _ (t : ℕ) (place : List ℕ) (fin dem missed : List Bool) (i : ℕ) (xs
   unfolding note_to note_one
   note_no b e h n = n ∙ so_far ∙ sym (rw (add-one i, sym e ∙ h))
 
--- nothing happens to one task more
-pub uneventful_more : (fin dem missed : List Bool) (i : ℕ) → Uneventful fin dem missed i → event_at fin dem missed i ≡ false
-    → Uneventful fin dem missed (i + 1)
-uneventful_more fin dem missed i h e j l = go (eq-or-lt_of_le {n = j} {m = i} (omega arith))
-  where
-    go : (j ≡ i) ⊎ (j < i) → event_at fin dem missed j ≡ false
-    go (inl z) = rw z e
-    go (inr k) = h j k
-
--- a count of one more
-pub tally_yes : (p : ℕ → Bool) (s j : ℕ) → s ≡ count_in p 0 j → p j ≡ true → s + 1 ≡ count_in p 0 (j + 1)
+-- a count goes over one more
+pub tally : (p : ℕ → Bool) (j : ℕ) → count_in p 0 (j + 1) ≡ count_in p 0 j + bit (p j)
 unfolding sum
-tally_yes p s j e h = rw (add-one j, zero-add j, h) (omega arith)
-
-pub tally_no : (p : ℕ → Bool) (s j : ℕ) → s ≡ count_in p 0 j → p j ≡ false → s ≡ count_in p 0 (j + 1)
-unfolding sum
-tally_no p s j e h = rw (add-one j, zero-add j, h) (omega arith)
+tally p j = rw (add-one j, zero-add j)

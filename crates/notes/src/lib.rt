@@ -17,25 +17,19 @@ use rules::{MAX_TASKS, RECORD_WIDTH};
 fn is_event(finished: bool, demoted: bool, missed: bool) -> bool
     ensures { result ≡ event finished demoted missed }
 {
-    if finished {
-        return true;
-    }
-    if demoted {
-        return true;
-    }
-    missed
+    finished || demoted || missed
 }
 
 fn verdict_after(finished: bool, missed: bool) -> u32
     ensures { result ≡ pick finished 1 (pick missed 2 3) }
 {
     if finished {
-        return 1;
+        1
+    } else if missed {
+        2
+    } else {
+        3
     }
-    if missed {
-        return 2;
-    }
-    3
 }
 
 // The time after the slot where the test holds, else what was there.
@@ -76,16 +70,13 @@ fn note_all(
     ensures { out.new ≡ note_to clock place.now finished.now demoted.now
         missed.now max_tasks out.old }
 {
-    let mut i: usize = 0;
-    while i < MAX_TASKS {
+    for i in 0..MAX_TASKS {
         let fin = finished[i];
         let dem = demoted[i];
         let mis = missed[i];
         if is_event(fin, dem, mis) {
-            let p = place[i];
-            note_task(out, p as usize, fin, dem, mis, clock);
+            note_task(out, usize::from(place[i]), fin, dem, mis, clock);
         }
-        i += 1;
     }
 }
 
@@ -98,12 +89,8 @@ fn any_event(
     ensures { result ≡ false → Uneventful finished.now demoted.now missed.now max_tasks }
 {
     let mut any = false;
-    let mut i: usize = 0;
-    while i < MAX_TASKS {
-        if is_event(finished[i], demoted[i], missed[i]) {
-            any = true;
-        }
-        i += 1;
+    for i in 0..MAX_TASKS {
+        any |= is_event(finished[i], demoted[i], missed[i]);
     }
     any
 }
@@ -132,12 +119,10 @@ pub fn open_records(out: &mut [u32], len: usize)
     requires { len * record_width ≤ length out.old }
     ensures { out.new ≡ numbers (tab (λ j. open_record) 0 len) ++ drop (len * record_width) out.old }
 {
-    let mut j: usize = 0;
-    while j < len {
+    for j in 0..len {
         out[j * RECORD_WIDTH] = 3;
         out[j * RECORD_WIDTH + 1] = 0;
         out[j * RECORD_WIDTH + 2] = 0;
-        j += 1;
     }
 }
 
@@ -148,12 +133,10 @@ pub fn marked_in(out: &[u32], n: usize, v: u32) -> u32
     ensures { result ≡ count_in (λ j. eqb (get_or out.now (j * record_width) 0) v) 0 n }
 {
     let mut s: u32 = 0;
-    let mut j: usize = 0;
-    while j < n {
+    for j in 0..n {
         if out[j * RECORD_WIDTH] == v {
             s += 1;
         }
-        j += 1;
     }
     s
 }

@@ -22,25 +22,19 @@ pub fn take_releases(
 {
     *released = [false; MAX_TASKS];
     let n = cases::release_count(trace);
-    let mut k = from;
-    while k < n {
-        if cases::time_of(trace, k) == clock {
-            let i = cases::name_of(trace, k) as usize - 1;
-            released[i] = true;
-            k += 1;
-        } else {
+    for k in from..n {
+        if cases::time_of(trace, k) != clock {
             return k;
         }
+        let i = cases::name_of(trace, k) as usize - 1;
+        released[i] = true;
     }
-    k
+    n
 }
 
 // Whether the next release is one of this time.
 pub fn is_due(trace: &[u32], next: usize, clock: u32) -> bool
     ensures { result ≡ due trace.now next clock }
 {
-    if next < cases::release_count(trace) {
-        return cases::time_of(trace, next) == clock;
-    }
-    false
+    next < cases::release_count(trace) && cases::time_of(trace, next) == clock
 }
