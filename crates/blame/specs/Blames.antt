@@ -1,6 +1,6 @@
 -- The words for a log's slot, for a person to read: which part of the rule it breaks, and by which tasks (request P2, refusal 18; the
 -- words are the project's own). The run is as it stands after steps 1 to 3 of the slot, so that its jobs are those that were chosen from.
-use Rattle.std.specs.Prelude.{ℕ, ◌-◌, min, ◌≡◌, Bool, ◌&&◌, not, List, ◌++◌, eqb}
+use Rattle.std.specs.Prelude.{ℕ, ◌+◌, ◌-◌, ◌<◌, min, ◌≡◌, Bool, ◌&&◌, not, List, ◌++◌, eqb, Option, None, Some}
 use Rattle.lists.specs.Lists.{members}
 use Rattle.rules.specs.Words.{pick, count_in, first_in}
 use Rattle.rules.specs.Limits.{max_tasks}
@@ -90,14 +90,24 @@ fault_room = 105
 abbrev pub blame_room : ℕ
 blame_room = 122
 
--- ---- the same, of a set as it stands in an array; neither the processors nor the table have a say in which task waits
-abbrev pub Overtaking : ℕ → ℕ → Run → List Bool → ℕ → ℕ → Type 0
-Overtaking policy now r named j k = (procs : ℕ) (table : List ℕ)
-    → k ≡ overtaking_task (setup_of procs policy table) now r (members named) j
+-- ---- the same, of a set as it stands in an array; neither the processors nor the table have a say in which task waits. A task that is
+-- looked for is found by its index, or none is.
+abbrev pub Absent : Run → List Bool → Option ℕ → Type 0
+Absent r named None = absent_task r (members named) ≡ 0
+Absent r named (Some i) = (i < max_tasks) × (absent_task r (members named) ≡ i + 1)
 
-abbrev pub Waiting : ℕ → ℕ → Run → List Bool → ℕ → Type 0
-Waiting policy now r named k = (procs : ℕ) (table : List ℕ)
-    → k ≡ waiting_task (setup_of procs policy table) now r (members named)
+abbrev pub Overtaking : ℕ → ℕ → Run → List Bool → ℕ → Option ℕ → Type 0
+Overtaking policy now r named j None = (procs : ℕ) (table : List ℕ)
+    → overtaking_task (setup_of procs policy table) now r (members named) j ≡ 0
+Overtaking policy now r named j (Some i) = (i < max_tasks) × ((procs : ℕ) (table : List ℕ)
+    → overtaking_task (setup_of procs policy table) now r (members named) j ≡ i + 1)
+
+-- the task that waits, and the one that it should come before
+abbrev pub Waiting : ℕ → ℕ → Run → List Bool → Option (ℕ × ℕ) → Type 0
+Waiting policy now r named None = (procs : ℕ) (table : List ℕ)
+    → waiting_task (setup_of procs policy table) now r (members named) ≡ 0
+Waiting policy now r named (Some (j, i)) = (j < max_tasks) × ((procs : ℕ) (table : List ℕ)
+    → waiting_task (setup_of procs policy table) now r (members named) ≡ j + 1) × Overtaking policy now r named j (Some i)
 
 -- what is laid says which task waits
 abbrev pub WaitingLaid : ℕ → ℕ → Run → List Bool → ℕ → List ℕ → List ℕ → ℕ → Type 0

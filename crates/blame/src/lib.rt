@@ -1,4 +1,5 @@
-// The words for a log's slot: which part of the rule it breaks, and by which tasks. A task is told by its number, 0 where there is none.
+// The words for a log's slot: which part of the rule it breaks, and by which tasks. A task is looked for by its index, and written as its
+// number.
 #![tactic(auto)]
 
 ghost use Rattle.std.specs.Prelude.{◌≡◌, ◌&&◌, not, ◌+◌, ◌≤◌, ◌<◌, min, length};
@@ -7,13 +8,13 @@ ghost use Rattle.rules.specs.Limits.{max_tasks};
 ghost use Rattle.rules.specs.Slot.{is_present, jobs_now};
 ghost use Rattle.rules.specs.Log.{sooner};
 ghost use Rattle.puts.specs.Laid.{Laid};
-ghost use Rattle.blame.specs.Blames.{absent_task, ran_count, job_of, kind_words, job_words, pair_words, absent_words, count_words};
+ghost use Rattle.blame.specs.Blames.{ran_count, kind_words, job_words, pair_words, absent_words, count_words};
 ghost use Rattle.lists.specs.Lists.{members};
 ghost use Rattle.blame.specs.Blames.{kind_room, job_room, fault_room, blame_room};
-ghost use Rattle.blame.specs.Blames.{Overtaking, Waiting, WaitingLaid, FaultLaid, Blamed};
+ghost use Rattle.blame.specs.Blames.{Absent, Overtaking, Waiting, WaitingLaid, FaultLaid, Blamed};
 
-use choice::{kind_of, some_wait};
-use jobs::{counted, due_of, has_job, is_demoted};
+use choice::kind_of;
+use jobs::{due_of, has_job, is_demoted};
 use puts::{put_bytes, put_number};
 use rules::{Job, MAX_TASKS, Run};
 
@@ -28,145 +29,92 @@ fn is_sooner(a: Job, b: Job, policy: u32, clock: u32) -> bool
 {
     let ours = kind_of(a, policy, clock);
     let theirs = kind_of(b, policy, clock);
-    if ours < theirs {
-        return true;
-    }
-    if theirs < ours {
-        return false;
-    }
-    due_of(a) < due_of(b)
+    ours < theirs || (ours == theirs && due_of(a) < due_of(b))
 }
 
 // Whether a job is left waiting though it comes strictly before another, which runs.
 fn is_wronged(a: Job, served: bool, b: Job, runs: bool, policy: u32, clock: u32) -> bool
     ensures { result ≡ (is_present a && not served && (runs && sooner policy clock a b)) }
 {
-    if served {
-        return false;
-    }
-    if !runs {
-        return false;
-    }
-    if has_job(a) {
-        return is_sooner(a, b, policy, clock);
-    }
-    false
+    has_job(a) && !served && runs && is_sooner(a, b, policy, clock)
 }
 
 // Whether a task runs without a job.
 fn is_absent(j: Job, runs: bool) -> bool
     ensures { result ≡ (runs && not (is_present j)) }
 {
-    if runs { !has_job(j) } else { false }
+    runs && !has_job(j)
 }
 
 // The lowest task that runs without a job.
-fn absent_task(r: Run, named: &[bool; MAX_TASKS]) -> usize
-    ensures { result ≡ absent_task r (members named.now) }
+fn absent_task(r: Run, named: &[bool; MAX_TASKS]) -> Option<usize>
+    ensures { Absent r named.now result }
 {
-    let mut i: usize = 0;
-    while i < MAX_TASKS {
-        let t = r.tasks[i];
-        let j = t.job;
-        let runs = named[i];
-        if is_absent(j, runs) {
-            return i + 1;
+    for i in 0..MAX_TASKS {
+        if is_absent(r.tasks[i].job, named[i]) {
+            return Some(i);
         }
-        i += 1;
     }
-    0
-}
-
-// Those counted so far, with one more where it is of the set.
-fn counted_if(n: usize, is: bool) -> usize
-    requires { n < max_tasks }
-    ensures { result ≡ n + bit is }
-{
-    if is { n + 1 } else { n }
+    None
 }
 
 // How many run.
 fn ran_count(named: &[bool; MAX_TASKS]) -> usize
     ensures { result ≡ ran_count (members named.now) }
 {
-    let mut n: usize = 0;
-    let mut i: usize = 0;
-    while i < MAX_TASKS {
-        let runs = named[i];
-        n = counted_if(n, runs);
-        i += 1;
-    }
-    n
+    named.iter().filter(|runs| **runs).count()
 }
 
 // The N of step 4: how many jobs are present.
 fn jobs_now(r: Run) -> usize
     ensures { result ≡ jobs_now r }
 {
-    let mut n: usize = 0;
-    let mut i: usize = 0;
-    while i < MAX_TASKS {
-        let t = r.tasks[i];
-        let j = t.job;
-        n = counted(n, j);
-        i += 1;
-    }
-    n
+    r.tasks.iter().filter(|t| has_job(t.job)).count()
 }
 
 // How many of so many jobs run: as many as there are processors, where there are more.
 fn due_count(procs: u32, jobs: usize) -> usize
     ensures { result ≡ min procs jobs }
 {
-    let m = procs as usize;
-    if some_wait(jobs, procs) { m } else { jobs }
+    jobs.min(procs as usize)
 }
 
 // The lowest task that runs though the job of the task at `at`, left waiting, comes strictly before its own.
-fn overtaking_task(r: Run, at: usize, policy: u32, clock: u32, named: &[bool; MAX_TASKS]) -> usize
+fn overtaking_task(
+    r: Run,
+    at: usize,
+    policy: u32,
+    clock: u32,
+    named: &[bool; MAX_TASKS],
+) -> Option<usize>
     requires { at < max_tasks }
     ensures { Overtaking policy clock r named.now at result }
 {
-    let waiting = r.tasks[at];
-    let a = waiting.job;
+    let a = r.tasks[at].job;
     let served = named[at];
-    let mut i: usize = 0;
-    while i < MAX_TASKS {
-        let t = r.tasks[i];
-        let b = t.job;
-        let runs = named[i];
-        if is_wronged(a, served, b, runs, policy, clock) {
-            return i + 1;
+    for i in 0..MAX_TASKS {
+        if is_wronged(a, served, r.tasks[i].job, named[i], policy, clock) {
+            return Some(i);
         }
-        i += 1;
     }
-    0
+    None
 }
 
-// The lowest task that waits though it comes strictly before one that runs.
-fn waiting_task(r: Run, policy: u32, clock: u32, named: &[bool; MAX_TASKS]) -> usize
+// The lowest task that waits though it comes strictly before one that runs, and the lowest such one.
+fn waiting_task(
+    r: Run,
+    policy: u32,
+    clock: u32,
+    named: &[bool; MAX_TASKS],
+) -> Option<(usize, usize)>
     ensures { Waiting policy clock r named.now result }
 {
-    let mut j: usize = 0;
-    while j < MAX_TASKS {
-        let i = overtaking_task(r, j, policy, clock, named);
-        if 0 < i {
-            return j + 1;
+    for j in 0..MAX_TASKS {
+        if let Some(i) = overtaking_task(r, j, policy, clock, named) {
+            return Some((j, i));
         }
-        j += 1;
     }
-    0
-}
-
-// The job of a task.
-fn job_of(r: Run, task: usize) -> Job
-    requires le_task { 1 ≤ task }
-    requires task_le_max_tasks { task ≤ max_tasks }
-    ensures { result ≡ job_of r task }
-{
-    let i = task - 1;
-    let t = r.tasks[i];
-    t.job
+    None
 }
 
 // ---- in words
@@ -238,15 +186,13 @@ fn put_waiting(
     requires { at + fault_room ≤ length out.old }
     ensures { WaitingLaid policy clock r named.now at out.old out.new result }
 {
-    let j = waiting_task(r, policy, clock, named);
-    if j == 0 {
+    let Some((j, i)) = waiting_task(r, policy, clock, named) else {
         return put_bytes(out, at, b"keeps the rule");
-    }
-    let i = overtaking_task(r, j - 1, policy, clock, named);
-    let a = job_of(r, j);
-    let b = job_of(r, i);
-    let waiting = j as u32;
-    let running = i as u32;
+    };
+    let a = r.tasks[j].job;
+    let b = r.tasks[i].job;
+    let waiting = j as u32 + 1;
+    let running = i as u32 + 1;
     put_pair(out, at, waiting, a, running, b)
 }
 
@@ -267,9 +213,8 @@ fn put_fault(
     if !names {
         return put_bytes(out, at, b"names a number that is no task");
     }
-    let absent = absent_task(r, named);
-    if 0 < absent {
-        return put_absent(out, at, absent as u32);
+    if let Some(i) = absent_task(r, named) {
+        return put_absent(out, at, i as u32 + 1);
     }
     let ran = ran_count(named);
     let due = due_count(procs, jobs_now(r));

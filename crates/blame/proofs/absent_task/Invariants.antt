@@ -1,14 +1,8 @@
--- `blame::absent_task` meets its contract: the first task that the test finds.
-use mathlib.Core.Bool.{◌&&◌, not}
-use Prim.Native.Nat.{◌-◌}
-use Rattle.rules.specs.Limits.{max_tasks}
+-- `blame::absent_task` meets its contract: none of the tasks before is absent.
+use Rattle.std.proofs.Common.{◌≡◌, ℕ, ◌<◌, ◌&&◌, not, false}
 use Rattle.rules.specs.Slot.{present}
 use Rattle.lists.specs.Lists.{members}
-use Rattle.blame.proofs.Firsts.{Seeking}
 use Rattle.blame.proofs.absent_task.Given as goal
 
 abbrev pub invariant-loop-i : goal.invariant-loop-i
-invariant-loop-i l = Seeking (λ i. members l.named i && not (present l.r i)) l.i
-
-abbrev pub decreases-loop-i : goal.decreases-loop-i
-decreases-loop-i l = max_tasks - l.i
+invariant-loop-i l = (k : ℕ) → k < l.i → (members l.named k && not (present l.r k)) ≡ false

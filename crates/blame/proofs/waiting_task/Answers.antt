@@ -1,25 +1,25 @@
--- `blame::waiting_task` meets its contract: the first task that some other overtakes.
-use mathlib.Core.List.{[]}
+-- `blame::waiting_task` meets its contract: no other overtakes one of the tasks before.
+use Rattle.std.proofs.Common.{ℕ, ◌+◌, ◌≡◌, arith, ap, true, false, not, eqb}
+use borrow.Author.Tests.{ne_eqb}
+use Rattle.blame.specs.Agrees.{none_first}
 use Rattle.blame.specs.Blames.{overtaking_task, waiting_task}
-use Rattle.blame.proofs.Firsts.{seek_none, seek_next, seek_found, seek_all}
-use Rattle.blame.proofs.Finds.{some_found, none_found}
+use Rattle.blame.proofs.Firsts.{first_found}
 use Rattle.blame.proofs.waiting_task.Goals as goal
 
-pub loop-j-init : goal.loop-j-init
-loop-j-init c = seek_none _
+some : (k i : ℕ) → k ≡ i + 1 → not (eqb k 0) ≡ true
+some k i e = ap not (ne_eqb k 0 (λ z. omega arith))
 
-pub returns-then-i-gt0 : goal.returns-then-i-gt0
+none : (k : ℕ) → k ≡ 0 → not (eqb k 0) ≡ false
+none k e = rw e
+
+pub returns-in-Some : goal.returns-in-Some
 unfolding waiting_task overtaking_task
-returns-then-i-gt0 c =
-    λ procs table.
-    seek_found _ _ c.loop-j.invariant c.loop-j-test.true
-    (some_found c.if-i-gt0.true (c.overtaking_task-i.ensures 0 []))
-
-pub loop-j-preserved : goal.loop-j-preserved
-loop-j-preserved c =
-    seek_next _ _ c.loop-j.invariant c.loop-j-test.true
-    (none_found c.if-i-gt0.false (c.overtaking_task-i.ensures 0 []))
+returns-in-Some c = (
+  omega arith,
+  λ procs table. first_found _ _ _ (λ k h. none _ (c.loop-j.invariant k h)) (omega arith) (some _ _ (c.in-Some.ensures.1 procs table)),
+  c.in-Some.ensures,
+)
 
 pub returns : goal.returns
 unfolding waiting_task overtaking_task
-returns c = λ procs table. seek_all _ _ c.loop-j.invariant c.loop-j-test.false
+returns c = λ procs table. none_first _ _ (λ k h. none _ (c.loop-j.invariant k (omega arith)))
