@@ -97,6 +97,12 @@ unfolding num_end
 num_some zero v h = absurd (h refl)
 num_some (suc k) v h = refl
 
+-- a task that is heard
+pub task_heard : (k v t low : ℕ) (rises names : Bool) (s : TaskSet) {a b : Bool} {x : TaskSet} → (k ≡ 0 → ⊥)
+    → a ≡ (rises && leb low v) → b ≡ (names && is_name v) → x ≡ with_name s v
+    → heard t a b x ≡ heard_task t low rises names s (num_end (num_so_far k v))
+task_heard k v t low rises names s h p q e = rw (num_some k v h, p, q, e)
+
 -- what fits is a digit, and there are at most eight before it
 pub fits_digit : (k v b : ℕ) → fits k v b ≡ true → (48 ≤ b) × (k ≤ 8)
 fits_digit k v b e =
