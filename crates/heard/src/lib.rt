@@ -178,7 +178,12 @@ fn letter(place: u32) -> u8
     requires { place < 4 }
     ensures { result ≡ get_or slot_word place 0 }
 {
-    b"slot"[place as usize]
+    match place {
+        0 => b's',
+        1 => b'l',
+        2 => b'o',
+        _ => b't',
+    }
 }
 
 // A byte within the word, or the tab behind it.
