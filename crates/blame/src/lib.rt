@@ -2,11 +2,10 @@
 // number.
 #![tactic(auto)]
 
-ghost use Rattle.std.specs.Prelude.{◌≡◌, ◌&&◌, not, ◌+◌, ◌≤◌, ◌<◌, min, length};
-ghost use Rattle.rules.specs.Words.{bit};
+ghost use Rattle.std.specs.Prelude.{◌≡◌, ◌&&◌, not, ◌+◌, ◌≤◌, ◌<◌, min, length, ℕ, List};
 ghost use Rattle.rules.specs.Limits.{max_tasks};
-ghost use Rattle.rules.specs.Slot.{is_present, jobs_now};
-ghost use Rattle.rules.specs.Log.{sooner};
+ghost use Rattle.rules.specs.Slot.{job_at, jobs_now, present, setup_of};
+ghost use Rattle.rules.specs.Log.{sooner, wronged};
 ghost use Rattle.puts.specs.Laid.{Laid};
 ghost use Rattle.blame.specs.Blames.{ran_count, kind_words, job_words, pair_words, absent_words, count_words};
 ghost use Rattle.lists.specs.Lists.{members};
@@ -21,6 +20,16 @@ use rules::{Job, MAX_TASKS, Run};
 // The bytes that the words of every slot fit into.
 pub const BLAME_ROOM: usize = 122;
 
+// A slot of a log: the run as it stands after steps 1 to 3, what the rule goes by, and the set that the line names.
+#[derive(Clone, Copy)]
+struct Slot<'a> {
+    run: &'a Run,
+    procs: u32,
+    policy: u32,
+    clock: u32,
+    named: &'a [bool; MAX_TASKS],
+}
+
 // ---- what is wrong
 
 // Whether a job comes strictly before another by kind and then deadline.
@@ -32,89 +41,96 @@ fn is_sooner(a: Job, b: Job, policy: u32, clock: u32) -> bool
     ours < theirs || (ours == theirs && due_of(a) < due_of(b))
 }
 
-// Whether a job is left waiting though it comes strictly before another, which runs.
-fn is_wronged(a: Job, served: bool, b: Job, runs: bool, policy: u32, clock: u32) -> bool
-    ensures { result ≡ (is_present a && not served && (runs && sooner policy clock a b)) }
-{
-    has_job(a) && !served && runs && is_sooner(a, b, policy, clock)
-}
-
-// Whether a task runs without a job.
-fn is_absent(j: Job, runs: bool) -> bool
-    ensures { result ≡ (runs && not (is_present j)) }
-{
-    runs && !has_job(j)
-}
-
-// The lowest task that runs without a job.
-fn absent_task(r: Run, named: &[bool; MAX_TASKS]) -> Option<usize>
-    ensures { Absent r named.now result }
-{
-    for i in 0..MAX_TASKS {
-        if is_absent(r.tasks[i].job, named[i]) {
-            return Some(i);
-        }
+impl Slot<'_> {
+    // The job of a task.
+    fn job(&self, i: usize) -> Job
+        requires { i < max_tasks }
+        ensures { result ≡ job_at self.now.run.now i }
+    {
+        self.run.tasks[i].job
     }
-    None
-}
 
-// How many run.
-fn ran_count(named: &[bool; MAX_TASKS]) -> usize
-    ensures { result ≡ ran_count (members named.now) }
-{
-    named.iter().filter(|runs| **runs).count()
-}
-
-// The N of step 4: how many jobs are present.
-fn jobs_now(r: Run) -> usize
-    ensures { result ≡ jobs_now r }
-{
-    r.tasks.iter().filter(|t| has_job(t.job)).count()
-}
-
-// How many of so many jobs run: as many as there are processors, where there are more.
-fn due_count(procs: u32, jobs: usize) -> usize
-    ensures { result ≡ min procs jobs }
-{
-    jobs.min(procs as usize)
-}
-
-// The lowest task that runs though the job of the task at `at`, left waiting, comes strictly before its own.
-fn overtaking_task(
-    r: Run,
-    at: usize,
-    policy: u32,
-    clock: u32,
-    named: &[bool; MAX_TASKS],
-) -> Option<usize>
-    requires { at < max_tasks }
-    ensures { Overtaking policy clock r named.now at result }
-{
-    let a = r.tasks[at].job;
-    let served = named[at];
-    for i in 0..MAX_TASKS {
-        if is_wronged(a, served, r.tasks[i].job, named[i], policy, clock) {
-            return Some(i);
-        }
+    // Whether a task runs without a job.
+    #[tactic(auto, unfolding(rules::specs::Slot::present))]
+    fn is_absent(&self, i: usize) -> bool
+        requires { i < max_tasks }
+        ensures { result ≡ (members self.now.named.now i && not (present self.now.run.now i)) }
+    {
+        self.named[i] && !has_job(self.job(i))
     }
-    None
-}
 
-// The lowest task that waits though it comes strictly before one that runs, and the lowest such one.
-fn waiting_task(
-    r: Run,
-    policy: u32,
-    clock: u32,
-    named: &[bool; MAX_TASKS],
-) -> Option<(usize, usize)>
-    ensures { Waiting policy clock r named.now result }
-{
-    for j in 0..MAX_TASKS {
-        if let Some(i) = overtaking_task(r, j, policy, clock, named) {
-            return Some((j, i));
+    // The lowest task that runs without a job.
+    fn absent_task(&self) -> Option<usize>
+        ensures { Absent self.now.run.now self.now.named.now result }
+    {
+        for i in 0..MAX_TASKS {
+            if self.is_absent(i) {
+                return Some(i);
+            }
         }
+        None
     }
-    None
+
+    // How many run.
+    fn ran_count(&self) -> usize
+        ensures { result ≡ ran_count (members self.now.named.now) }
+    {
+        let named = self.named;
+        named.iter().filter(|runs| **runs).count()
+    }
+
+    // The N of step 4: how many jobs are present.
+    fn jobs_now(&self) -> usize
+        ensures { result ≡ jobs_now self.now.run.now }
+    {
+        let run = self.run;
+        run.tasks.iter().filter(|t| has_job(t.job)).count()
+    }
+
+    // How many should run: as many as there are processors, where there are more jobs.
+    fn due_count(&self) -> usize
+        ensures { result ≡ min self.now.procs (jobs_now self.now.run.now) }
+    {
+        self.jobs_now().min(self.procs as usize)
+    }
+
+    // Whether the job of the task at j is left waiting though it comes strictly before that of the task at i, which runs.
+    #[tactic(auto, unfolding(rules::specs::Slot::present))]
+    fn is_wronged(&self, j: usize, i: usize) -> bool
+        requires j_in_bounds { j < max_tasks }
+        requires i_in_bounds { i < max_tasks }
+        ensures { (table : List ℕ) → result ≡ wronged (setup_of self.now.procs self.now.policy table) self.now.clock self.now.run.now (members self.now.named.now) j i }
+    {
+        has_job(self.job(j))
+            && !self.named[j]
+            && self.named[i]
+            && is_sooner(self.job(j), self.job(i), self.policy, self.clock)
+    }
+
+    // The lowest task that runs though the job of the task at j, left waiting, comes strictly before its own.
+    fn overtaking_task(&self, j: usize) -> Option<usize>
+        requires { j < max_tasks }
+        ensures { Overtaking self.now j result }
+    {
+        for i in 0..MAX_TASKS {
+            if self.is_wronged(j, i) {
+                return Some(i);
+            }
+        }
+        None
+    }
+
+    // The lowest task that waits though it comes strictly before one that runs, and the lowest such one.
+    fn waiting_task(&self) -> Option<(usize, usize)>
+        ensures { Waiting self.now result }
+    {
+        for j in 0..MAX_TASKS {
+            if let Some(i) = self.overtaking_task(j) {
+                return Some((j, i));
+            }
+        }
+        None
+    }
 }
 
 // ---- in words
@@ -175,53 +191,37 @@ fn put_count(out: &mut [u8], at: usize, ran: u32, due: u32) -> usize
 }
 
 // Writes which task waits, and which runs before it; or that none does.
-fn put_waiting(
-    out: &mut [u8],
-    at: usize,
-    r: Run,
-    policy: u32,
-    clock: u32,
-    named: &[bool; MAX_TASKS],
-) -> usize
+fn put_waiting(out: &mut [u8], at: usize, slot: &Slot) -> usize
     requires { at + fault_room ≤ length out.old }
-    ensures { WaitingLaid policy clock r named.now at out.old out.new result }
+    ensures { WaitingLaid slot.now at out.old out.new result }
 {
-    let Some((j, i)) = waiting_task(r, policy, clock, named) else {
+    let Some((j, i)) = slot.waiting_task() else {
         return put_bytes(out, at, b"keeps the rule");
     };
-    let a = r.tasks[j].job;
-    let b = r.tasks[i].job;
+    let a = slot.job(j);
+    let b = slot.job(i);
     let waiting = j as u32 + 1;
     let running = i as u32 + 1;
     put_pair(out, at, waiting, a, running, b)
 }
 
 // Writes what is wrong, the first that applies.
-fn put_fault(
-    out: &mut [u8],
-    at: usize,
-    r: Run,
-    procs: u32,
-    policy: u32,
-    clock: u32,
-    names: bool,
-    named: &[bool; MAX_TASKS],
-) -> usize
+fn put_fault(out: &mut [u8], at: usize, slot: &Slot, names: bool) -> usize
     requires { at + fault_room ≤ length out.old }
-    ensures { FaultLaid procs policy clock r names named.now at out.old out.new result }
+    ensures { FaultLaid slot.now names at out.old out.new result }
 {
     if !names {
         return put_bytes(out, at, b"names a number that is no task");
     }
-    if let Some(i) = absent_task(r, named) {
+    if let Some(i) = slot.absent_task() {
         return put_absent(out, at, i as u32 + 1);
     }
-    let ran = ran_count(named);
-    let due = due_count(procs, jobs_now(r));
+    let ran = slot.ran_count();
+    let due = slot.due_count();
     if ran != due {
         return put_count(out, at, ran as u32, due as u32);
     }
-    put_waiting(out, at, r, policy, clock, named)
+    put_waiting(out, at, slot)
 }
 
 // Writes the words for a slot, of which the line names a set, at the start of the lent bytes and returns their length. `names` says
@@ -238,8 +238,15 @@ pub fn put_blame(
     requires { blame_room ≤ length out.old }
     ensures { Blamed procs policy clock r names named.now out.old out.new result }
 {
+    let slot = Slot {
+        run: &r,
+        procs,
+        policy,
+        clock,
+        named,
+    };
     let time_at = put_bytes(out, 0, b"slot ");
     let parted_at = put_number(out, time_at, clock);
     let at = put_bytes(out, parted_at, b": ");
-    put_fault(out, at, r, procs, policy, clock, names, named)
+    put_fault(out, at, &slot, names)
 }

@@ -1,7 +1,6 @@
 -- `blame::put_fault` meets its contract: the first test that finds something.
 use mathlib.Core.Bool.{not}
-use mathlib.Core.Path.{ap, ◌∙◌}
-use Prim.Native.Nat.{min}
+use mathlib.Core.Path.{ap}
 use native.Mathlib.Omega.{arith}
 use Rattle.rules.specs.Limits.{max_tasks}
 use Rattle.lists.specs.Sums.{count_le}
@@ -20,17 +19,16 @@ returns-in-Some c =
     λ table. one-absent _ _ _ _ _ (ap not c.if-not-names.false) _ c.in-Some.ensures.1 c.put_absent.ensures
 
 pub overflow_cast-ran : goal.overflow_cast-ran
-overflow_cast-ran c = omega (arith, c.ran_count-ran.ensures, count_le (members c.args.named.now) 0 max_tasks)
+overflow_cast-ran c = omega (arith, c.ran_count-ran.ensures, count_le (members c.args.slot.now.named.now) 0 max_tasks)
 
 pub returns-then-ran-due : goal.returns-then-ran-due
 returns-then-ran-due c =
     let ran = c.ran_count-ran.ensures in
-    let due = c.due_count-due.ensures ∙ ap (min c.args.procs) c.jobs_now.ensures in
+    let due = c.due_count-due.ensures in
     λ table. wrong_count _ _ _ _ _ (ap not c.if-not-names.false) c.in_default.ensures ran due c.if-ran-due.true c.put_count.ensures
 
 pub returns : goal.returns
 returns c =
     let ran = c.ran_count-ran.ensures in
-    let due = c.due_count-due.ensures ∙ ap (min c.args.procs) c.jobs_now.ensures in
-    let waits = c.put_waiting.ensures c.args.procs in
-    λ table. right_count _ _ _ _ _ (ap not c.if-not-names.false) c.in_default.ensures ran due c.if-ran-due.false (waits table)
+    let due = c.due_count-due.ensures in
+    λ table. right_count _ _ _ _ _ (ap not c.if-not-names.false) c.in_default.ensures ran due c.if-ran-due.false (c.put_waiting.ensures table)

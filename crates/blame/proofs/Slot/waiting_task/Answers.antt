@@ -1,10 +1,10 @@
--- `blame::waiting_task` meets its contract: no other overtakes one of the tasks before.
+-- `blame::Slot::waiting_task` meets its contract: no other overtakes one of the tasks before.
 use Rattle.std.proofs.Common.{ℕ, ◌+◌, ◌≡◌, arith, ap, true, false, not, eqb}
 use borrow.Author.Tests.{ne_eqb}
 use Rattle.blame.specs.Agrees.{none_first}
 use Rattle.blame.specs.Blames.{overtaking_task, waiting_task}
 use Rattle.blame.proofs.Firsts.{first_found}
-use Rattle.blame.proofs.waiting_task.Goals as goal
+use Rattle.blame.proofs.Slot.waiting_task.Goals as goal
 
 some : (k i : ℕ) → k ≡ i + 1 → not (eqb k 0) ≡ true
 some k i e = ap not (ne_eqb k 0 (λ z. omega arith))
@@ -16,10 +16,10 @@ pub returns-in-Some : goal.returns-in-Some
 unfolding waiting_task overtaking_task
 returns-in-Some c = (
   omega arith,
-  λ procs table. first_found _ _ _ (λ k h. none _ (c.loop-j.invariant k h)) (omega arith) (some _ _ (c.in-Some.ensures.1 procs table)),
+  λ table. first_found _ _ _ (λ k h. none _ (c.loop-j.invariant k h)) (omega arith) (some _ _ (c.in-Some.ensures.1 table)),
   c.in-Some.ensures,
 )
 
 pub returns : goal.returns
 unfolding waiting_task overtaking_task
-returns c = λ procs table. none_first _ _ (λ k h. none _ (c.loop-j.invariant k (omega arith)))
+returns c = λ table. none_first _ _ (λ k h. none _ (c.loop-j.invariant k (omega arith)))

@@ -1,7 +1,0 @@
--- `blame::ran_count` meets its contract.
-use Rattle.std.proofs.Common.{rules, false}
-use Rattle.blame.proofs.Counts.{count_tasks}
-use Rattle.blame.proofs.ran_count.Goals as goal
-
-pub returns : goal.returns
-returns c = count_tasks (λ b. b) false c.args.named.now _ (search rules) (search rules)
