@@ -15,7 +15,10 @@ use Rattle.feeds.specs.NumScan.{num_so_far, fits}
 use Rattle.feeds.specs.LineScan.{LineScan, in_time, scan_byte, scan_all}
 use Rattle.feeds.specs.Bounds.{NumSmall}
 use Rattle.feeds.proofs.Bounds.{small_field, small_scan}
-use Rattle.heard.specs.Scans.{phase_as}
+use Rattle.std.proofs.Common.{inl}
+use Rattle.heard.specs.declared.Phase.{Phase}
+use Rattle.heard.specs.declared.Phase.TheVariants as Phase·
+use Rattle.heard.specs.Scans.{OfNumber, phase_as}
 use Rattle.heard.specs.Lines.{Goes, HeardLine}
 use Rattle.heard.proofs.Scanning.{fits_digit, digit_more, scan_other}
 
@@ -54,13 +57,13 @@ goes_byte bytes i x l h = record {
 }
 
 -- one digit more of a number
-pub goes_digit : (bytes : List ℕ) (i p k v t low : ℕ) (rises names : Bool) (s : TaskSet) → 1 ≤ p → p ≤ 2 → i < length bytes
+pub goes_digit : (bytes : List ℕ) (i : ℕ) (p : Phase) (k v t low : ℕ) (rises names : Bool) (s : TaskSet) → OfNumber p → i < length bytes
     → fits k v (get_or bytes i 0) ≡ true
     → Goes bytes i (phase_as p k v t low rises names s) (i + 1)
     (phase_as p (k + 1) (v * 10 + (get_or bytes i 0 - 48)) t low rises names s)
-goes_digit bytes i p k v t low rises names s from to l e =
+goes_digit bytes i p k v t low rises names s o l e =
     rw (
-      digit_more p k v t low rises names s (get_or bytes i 0) from to e,
+      digit_more p k v t low rises names s (get_or bytes i 0) o e,
       scan_other (phase_as p k v t low rises names s) (get_or bytes i 0) (λ z. omega (arith, fits_digit k v (get_or bytes i 0) e)),
     ) (goes_byte bytes i _ l (λ z. omega (arith, fits_digit k v (get_or bytes i 0) e)))
 
@@ -68,7 +71,7 @@ goes_digit bytes i p k v t low rises names s from to l e =
 pub small_digit : (k v b : ℕ) → fits k v b ≡ true → NumSmall (num_so_far k v)
     → NumSmall (num_so_far (k + 1) (v * 10 + (b - 48)))
 small_digit k v b e h =
-    rw (← digit_more 1 k v 0 0 true true (λ i. false) b (omega arith) (omega arith) e) at (small_field (in_time k v) b h)
+    rw (← digit_more Phase·.Time k v 0 0 true true (λ i. false) b (inl refl) e) at (small_field (in_time k v) b h)
 
 -- at the end of the line
 pub goes_all : {bytes : List ℕ} {i j : ℕ} {x y : LineScan} (xs : List Bool) → length xs ≡ max_tasks → Goes bytes i x j y

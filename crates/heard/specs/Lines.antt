@@ -7,10 +7,11 @@ use Rattle.feeds.specs.NumScan.{num_so_far}
 use Rattle.feeds.specs.LineScan.{LineScan, scan_all}
 use Rattle.feeds.specs.Bounds.{NumSmall, LineSmall}
 use Rattle.heard.specs.declared.Scan.{Scan}
+use Rattle.heard.specs.Scans.{OfNumber}
 
 -- a number that is being read is small
 abbrev pub NumberSmall : Scan → Type 0
-NumberSmall s = 1 ≤ s.phase → s.phase ≤ 2 → NumSmall (num_so_far s.digits s.value)
+NumberSmall s = OfNumber s.phase → NumSmall (num_so_far s.digits s.value)
 
 -- from a place of a piece and a state to a place further on and the state there
 pub record Goes (bytes : List ℕ) (i : ℕ) (x : LineScan) (j : ℕ) (y : LineScan) : Type 0 where

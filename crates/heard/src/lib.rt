@@ -1,8 +1,7 @@
 // A line of a slot log, heard byte by byte in a state that does not grow with it; the tasks that it names stand in a lent set.
 #![tactic(auto)]
 
-ghost use Rattle.std.specs.Prelude.{◌≡◌, Bool, List, ◌+◌, ◌*◌, ◌-◌, ◌≤◌, ◌<◌, ◌^◌, eqb, length, get_or};
-ghost use Rattle.rules.specs.Words.{pick};
+ghost use Rattle.std.specs.Prelude.{◌≡◌, Bool, List, ◌+◌, ◌*◌, ◌-◌, ◌≤◌, ◌<◌, ◌^◌, length, get_or};
 ghost use Rattle.rules.specs.Limits.{max_tasks};
 ghost use Rattle.rules.specs.Text.{return_byte, tab_byte};
 ghost use Rattle.rules.specs.Log.{slot_word};
@@ -10,18 +9,29 @@ ghost use Rattle.lists.specs.Lists.{members};
 ghost use Rattle.feeds.specs.NumScan.{fits, num_so_far, num_end};
 ghost use Rattle.feeds.specs.LineScan.{is_name, with_name, field_byte, scan_byte, heard_time, heard_task, line_end, at_start};
 ghost use Rattle.feeds.specs.Bounds.{LineSmall};
-ghost use Rattle.heard.specs.Scans.{InNumber, start_of, scan_as, ended_as};
+ghost use Rattle.heard.specs.Scans.{InWord, InNumber, start_of, next_low, scan_as, ended_as};
 ghost use Rattle.heard.specs.Lines.{NumberSmall, Goes, HeardLine};
 
 use rules::MAX_TASKS;
 
+// What is heard of a line: its word, its time, a task; that it cannot become a line any more; that it is one, and a return stands behind
+// it.
+#[derive(Clone, Copy)]
+pub enum Phase {
+    Word,
+    Time,
+    Task,
+    Wrong,
+    Returned,
+}
+
 // How far a line is heard: its phase, and what that phase goes by: the bytes of the word that were read, or the digits of a number and
 // what they are worth; of the tasks the time before them, the least number that would rise, and whether all before rise and are tasks.
-// Behind a return the time is that of the line, and all its tasks are those before. A struct and not an enum: the fields stay in registers
-// from byte to byte.
+// Behind a return the time is that of the line, and all its tasks are those before. The phases hold none of this: the fields stay in
+// registers from byte to byte.
 #[derive(Clone, Copy)]
 pub struct Scan {
-    pub phase: u32,
+    pub phase: Phase,
     pub digits: u32,
     pub value: u32,
     pub time: u32,
@@ -29,18 +39,6 @@ pub struct Scan {
     pub rises: bool,
     pub names: bool,
 }
-
-// The phases of a line: its word, its time, its tasks; that it cannot become a line any more; that it is one, and a return stands behind
-// it.
-const WORD: u32 = 0;
-
-const TIME: u32 = 1;
-
-const TASK: u32 = 2;
-
-const WRONG: u32 = 3;
-
-const RETURNED: u32 = 4;
 
 // The byte that ends a line.
 const NEWLINE: u8 = b'\n';
@@ -132,20 +130,15 @@ pub fn line_end(s: Scan, named: &mut [bool; MAX_TASKS]) -> Ended
     ensures { (length named.new ≡ max_tasks)
         × (ended_as result named.new ≡ line_end (scan_as s named.old)) }
 {
-    let phase = s.phase;
-    if phase == TASK {
-        return end_task(s, named);
-    }
-    if phase == TIME {
-        return end_time(s.digits, s.value, named);
-    }
-    if phase < RETURNED {
-        return Ended::Bad;
-    }
-    Ended::Slot {
-        time: s.time,
-        rises: s.rises,
-        names: s.names,
+    match s.phase {
+        Phase::Word | Phase::Wrong => Ended::Bad,
+        Phase::Time => end_time(s.digits, s.value, named),
+        Phase::Task => end_task(s, named),
+        Phase::Returned => Ended::Slot {
+            time: s.time,
+            rises: s.rises,
+            names: s.names,
+        },
     }
 }
 
@@ -156,7 +149,7 @@ pub fn line_start() -> Scan
     ensures { result ≡ start_of }
 {
     Scan {
-        phase: WORD,
+        phase: Phase::Word,
         digits: 0,
         value: 0,
         time: 0,
@@ -170,7 +163,7 @@ pub fn line_start() -> Scan
 pub fn is_start(s: Scan) -> bool
     ensures { (xs : List Bool) → result ≡ at_start (scan_as s xs) }
 {
-    s.phase == WORD && s.digits == 0
+    matches!(s.phase, Phase::Word) && s.digits == 0
 }
 
 // The byte of the word at a place.
@@ -188,20 +181,23 @@ fn letter(place: u32) -> u8
 
 // A byte within the word, or the tab behind it.
 fn word_byte(s: Scan, b: u8) -> Scan
-    requires { s.phase ≡ 0 }
+    requires { InWord s }
     ensures { (xs : List Bool) → scan_as result xs ≡ field_byte (scan_as s xs) b }
 {
     let read = s.digits;
     if 4 <= read {
         if b == b'\t' {
             return Scan {
-                phase: TIME,
+                phase: Phase::Time,
                 digits: 0,
                 value: 0,
                 ..s
             };
         }
-        return Scan { phase: WRONG, ..s };
+        return Scan {
+            phase: Phase::Wrong,
+            ..s
+        };
     }
     if b == letter(read) {
         return Scan {
@@ -209,15 +205,21 @@ fn word_byte(s: Scan, b: u8) -> Scan
             ..s
         };
     }
-    Scan { phase: WRONG, ..s }
+    Scan {
+        phase: Phase::Wrong,
+        ..s
+    }
 }
 
 // The least task that rises behind a field: any behind the time, and behind a task one that is larger.
-fn next_low(phase: u32, value: u32) -> u32
+fn next_low(phase: Phase, value: u32) -> u32
     requires { value < 10 ^ 9 }
-    ensures { result ≡ pick (eqb phase 2) (value + 1) 0 }
+    ensures { result ≡ next_low phase value }
 {
-    if phase == TASK { value + 1 } else { 0 }
+    match phase {
+        Phase::Task => value + 1,
+        _ => 0,
+    }
 }
 
 // A tab behind a number: a task is to come.
@@ -230,10 +232,13 @@ fn after_field(s: Scan, named: &mut [bool; MAX_TASKS]) -> Scan
     let low = next_low(s.phase, s.value);
     let ended = line_end(s, named);
     let Ended::Slot { time, rises, names } = ended else {
-        return Scan { phase: WRONG, ..s };
+        return Scan {
+            phase: Phase::Wrong,
+            ..s
+        };
     };
     Scan {
-        phase: TASK,
+        phase: Phase::Task,
         digits: 0,
         value: 0,
         time,
@@ -260,7 +265,10 @@ fn number_byte(s: Scan, b: u8, named: &mut [bool; MAX_TASKS]) -> Scan
             ..s
         };
     }
-    Scan { phase: WRONG, ..s }
+    Scan {
+        phase: Phase::Wrong,
+        ..s
+    }
 }
 
 // A return: behind a time or a task the line is heard, and only its newline may follow.
@@ -269,20 +277,22 @@ fn at_return(s: Scan, named: &mut [bool; MAX_TASKS]) -> Scan
     ensures { (length named.new ≡ max_tasks)
         × (scan_as result named.new ≡ scan_byte (scan_as s named.old) return_byte) }
 {
-    let lost = Scan { phase: WRONG, ..s };
-    if RETURNED <= s.phase {
+    let lost = Scan {
+        phase: Phase::Wrong,
+        ..s
+    };
+    if let Phase::Returned = s.phase {
         return lost;
     }
-    let ended = line_end(s, named);
-    let Ended::Slot { time, rises, names } = ended else {
-        return lost;
-    };
-    Scan {
-        phase: RETURNED,
-        time,
-        rises,
-        names,
-        ..s
+    match line_end(s, named) {
+        Ended::Bad => lost,
+        Ended::Slot { time, rises, names } => Scan {
+            phase: Phase::Returned,
+            time,
+            rises,
+            names,
+            ..s
+        },
     }
 }
 
@@ -296,14 +306,14 @@ fn scan_byte(s: Scan, b: u8, named: &mut [bool; MAX_TASKS]) -> Scan
     if b == b'\r' {
         return at_return(s, named);
     }
-    let phase = s.phase;
-    if phase == WORD {
-        return word_byte(s, b);
+    match s.phase {
+        Phase::Word => word_byte(s, b),
+        Phase::Time | Phase::Task => number_byte(s, b, named),
+        Phase::Wrong | Phase::Returned => Scan {
+            phase: Phase::Wrong,
+            ..s
+        },
     }
-    if WRONG <= phase {
-        return Scan { phase: WRONG, ..s };
-    }
-    number_byte(s, b, named)
 }
 
 // ---- a line within a piece of bytes
@@ -331,11 +341,9 @@ fn scan_number(s: Scan, piece: &[u8], from: usize) -> (Scan, usize)
     requires from_in_bounds { from ≤ length piece.now }
     ensures { (xs : List Bool) → Goes piece.now from (scan_as s xs) result.1 (scan_as result.0 xs) }
 {
-    let phase = s.phase;
-    if phase == TIME || phase == TASK {
-        scan_digits(s, piece, from)
-    } else {
-        (s, from)
+    match s.phase {
+        Phase::Time | Phase::Task => scan_digits(s, piece, from),
+        _ => (s, from),
     }
 }
 

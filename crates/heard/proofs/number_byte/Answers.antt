@@ -14,7 +14,7 @@ returns-then-fits c =
     let s = c.args.s in (
       c.requires.named_len,
       rw c.with_digit.ensures (digit_more s.phase s.digits s.value s.time s.low s.rises s.names _ c.args.b
-          c.requires.in_number.from c.requires.in_number.to (sym c.fits.ensures ∙ c.if-fits.true)),
+          c.requires.in_number.of (sym c.fits.ensures ∙ c.if-fits.true)),
     )
 
 pub returns : goal.returns
@@ -22,5 +22,5 @@ returns c =
     let s = c.args.s in (
       c.requires.named_len,
       number_wrong s.phase s.digits s.value s.time s.low s.rises s.names _ c.args.b
-          c.requires.in_number.from c.requires.in_number.to (sym c.fits.ensures ∙ c.if-fits.false) c.if-b-eq9.false,
+          c.requires.in_number.of (sym c.fits.ensures ∙ c.if-fits.false) c.if-b-eq9.false,
     )

@@ -19,5 +19,5 @@ loop-i-preserved c =
     rw c.with_digit-value.ensures (
       small_digit l.digits l.value _ fit l.invariant.0,
       λ xs. goes_both (l.invariant.1 xs) (goes_digit c.args.piece.now l.i s.phase l.digits l.value s.time
-          s.low s.rises s.names (members xs) c.requires.in_number.from c.requires.in_number.to c.loop-i-test.true fit),
+          s.low s.rises s.names (members xs) c.requires.in_number.of c.loop-i-test.true fit),
     )

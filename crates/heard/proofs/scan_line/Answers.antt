@@ -19,7 +19,7 @@ pub scan_number-requires-clause-number_small : goal.scan_number-requires-clause-
 scan_number-requires-clause-number_small c =
     let r = c.scan_byte-scan.result in
     let g = further c.loop-i.invariant.1 c.loop-i-test.true c.if-piece-i-ne-NEWLINE.true c.scan_byte-scan.ensures.1 in
-    λ from to. small_number r.phase r.digits r.value r.time r.low r.rises r.names _ from to (g.small c.requires.line_small)
+    λ of. small_number r.phase r.digits r.value r.time r.low r.rises r.names _ of (g.small c.requires.line_small)
 
 pub loop-i-preserved : goal.loop-i-preserved
 loop-i-preserved c = (
