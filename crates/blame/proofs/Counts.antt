@@ -1,32 +1,22 @@
--- The tasks of a set, as a loop counts them.
-use mathlib.Core.Path.{◌≡◌, refl, ap, ◌∙◌}
-use mathlib.Core.Bool.{Bool}
-use Prim.Native.Nat.{ℕ, ◌+◌, ◌≤◌, ◌<◌}
-use native.Mathlib.Nat.{zero-add}
-use native.Mathlib.Numerals.{add-one}
-use native.Mathlib.Omega.{arith}
+-- The tasks that a chain counts, as the rules count them by index.
+use Rattle.std.proofs.Common.{◌≡◌, refl, Bool, true, false, cond, List, ◌∷◌, ℕ, ◌+◌, length, get_or, arith}
+use Rattle.std.specs.List.{count_by}
+use Rattle.std.proofs.lemmas.List.Recursion.{is_count_by}
 use Rattle.rules.specs.Words.{bit, sum, count_in}
 use Rattle.rules.specs.Limits.{max_tasks}
-use Rattle.lists.specs.Sums.{count_le}
+use Rattle.lists.specs.Sums.{sum_head, sum_shift}
 
-pub record Counting (p : ℕ → Bool) (n i : ℕ) : Type 0 where
-  pub is : n ≡ count_in p 0 i
-  pub few : i ≤ max_tasks
+one_more : (b : Bool) (n : ℕ) → bit b + n ≡ cond b (1 + n) n
+one_more true n = refl
+one_more false n = omega arith
 
-pub counting_none : (p : ℕ → Bool) → Counting p 0 0
+count_index : {X : Type 0} (p : X → Bool) (d : X) (xs : List X) → count_in (λ i. p (get_or xs i d)) 0 (length xs) ≡ count_by p xs
 unfolding sum
-counting_none p = record { is = refl; few = omega arith }
+count_index p d =
+    is_count_by (λ xs. count_in (λ i. p (get_or xs i d)) 0 (length xs)) p refl (λ x xs.
+    rw (sum_head (λ i. bit (p (get_or (x ∷ xs) i d))) 0 (length xs), sum_shift (λ i. bit (p (get_or (x ∷ xs) i d))) 0 (length xs))
+    (one_more (p x) _))
 
-module _ (p : ℕ → Bool) (n i : ℕ) (w : Counting p n i) where
-  pub counting_room : i < max_tasks → n < max_tasks
-  counting_room h = omega (arith, w.is, count_le p 0 i)
-
-  counted-more : (m : ℕ) (b : Bool) → m ≡ n + bit b → p i ≡ b → m ≡ count_in p 0 (i + 1)
-  unfolding sum
-  counted-more m b h q = rw (add-one i, zero-add i, q) (omega (arith, w.is))
-
-  pub counting_next : (m : ℕ) (b : Bool) → i < max_tasks → m ≡ n + bit b → p i ≡ b → Counting p m (i + 1)
-  counting_next m b l h q = record { is = counted-more m b h q; few = omega arith }
-
-  pub counting_all : max_tasks ≤ i → n ≡ count_in p 0 max_tasks
-  counting_all h = let all : i ≡ max_tasks = omega (arith, w.few) in w.is ∙ ap (count_in p 0) all
+pub count_tasks : {X : Type 0} (p : X → Bool) (d : X) (xs : List X) (n : ℕ) → length xs ≡ max_tasks → n ≡ count_by p xs
+    → n ≡ count_in (λ i. p (get_or xs i d)) 0 max_tasks
+count_tasks p d xs n l e = rw (← l, count_index p d xs) e

@@ -1,6 +1,6 @@
 -- The words for a log's slot, for a person to read: which part of the rule it breaks, and by which tasks (request P2, refusal 18; the
 -- words are the project's own). The run is as it stands after steps 1 to 3 of the slot, so that its jobs are those that were chosen from.
-use Rattle.std.specs.Prelude.{ℕ, ◌-◌, min, ◌≡◌, Bool, ◌&&◌, not, List, ◌++◌, eqb}
+use Rattle.std.specs.Prelude.{ℕ, ◌+◌, ◌-◌, ◌<◌, min, ◌≡◌, Bool, ◌&&◌, not, List, ◌++◌, eqb, Option, None, Some}
 use Rattle.lists.specs.Lists.{members}
 use Rattle.rules.specs.Words.{pick, count_in, first_in}
 use Rattle.rules.specs.Limits.{max_tasks}
@@ -10,6 +10,7 @@ use Rattle.rules.specs.Log.{wronged}
 use Rattle.rules.specs.declared.Job.{Job}
 use Rattle.rules.specs.declared.Run.{Run}
 use Rattle.puts.specs.Laid.{Laid}
+use Rattle.blame.specs.declared.Slot.{Slot}
 use Rattle.reasons.specs.Reasons.{words}
 use Rattle.prints.specs.Lines.{Printed}
 
@@ -90,25 +91,36 @@ fault_room = 105
 abbrev pub blame_room : ℕ
 blame_room = 122
 
--- ---- the same, of a set as it stands in an array; neither the processors nor the table have a say in which task waits
-abbrev pub Overtaking : ℕ → ℕ → Run → List Bool → ℕ → ℕ → Type 0
-Overtaking policy now r named j k = (procs : ℕ) (table : List ℕ)
-    → k ≡ overtaking_task (setup_of procs policy table) now r (members named) j
+-- ---- the same, of a slot as the code has it, whatever the table, which has no say in it. A task that is looked for is found by its
+-- index, or none is.
+abbrev pub setup_with : Slot → List ℕ → Setup
+setup_with s table = setup_of s.procs s.policy table
 
-abbrev pub Waiting : ℕ → ℕ → Run → List Bool → ℕ → Type 0
-Waiting policy now r named k = (procs : ℕ) (table : List ℕ)
-    → k ≡ waiting_task (setup_of procs policy table) now r (members named)
+abbrev pub Absent : Run → List Bool → Option ℕ → Type 0
+Absent r named None = absent_task r (members named) ≡ 0
+Absent r named (Some i) = (i < max_tasks) × (absent_task r (members named) ≡ i + 1)
+
+abbrev pub Overtaking : Slot → ℕ → Option ℕ → Type 0
+Overtaking s j None = (table : List ℕ) → overtaking_task (setup_with s table) s.clock s.run.now (members s.named.now) j ≡ 0
+Overtaking s j (Some i) = (i < max_tasks) × ((table : List ℕ)
+    → overtaking_task (setup_with s table) s.clock s.run.now (members s.named.now) j ≡ i + 1)
+
+-- the task that waits, and the one that it should come before
+abbrev pub Waiting : Slot → Option (ℕ × ℕ) → Type 0
+Waiting s None = (table : List ℕ) → waiting_task (setup_with s table) s.clock s.run.now (members s.named.now) ≡ 0
+Waiting s (Some (j, i)) = (j < max_tasks) × ((table : List ℕ)
+    → waiting_task (setup_with s table) s.clock s.run.now (members s.named.now) ≡ j + 1) × Overtaking s j (Some i)
 
 -- what is laid says which task waits
-abbrev pub WaitingLaid : ℕ → ℕ → Run → List Bool → ℕ → List ℕ → List ℕ → ℕ → Type 0
-WaitingLaid policy now r named at old new end = (procs : ℕ) (table : List ℕ)
-    → Laid at (waiting_words (setup_of procs policy table) now r (members named)
-    (waiting_task (setup_of procs policy table) now r (members named))) old new end
+abbrev pub WaitingLaid : Slot → ℕ → List ℕ → List ℕ → ℕ → Type 0
+WaitingLaid s at old new end = (table : List ℕ)
+    → Laid at (waiting_words (setup_with s table) s.clock s.run.now (members s.named.now)
+    (waiting_task (setup_with s table) s.clock s.run.now (members s.named.now))) old new end
 
 -- what is laid says what is wrong
-abbrev pub FaultLaid : ℕ → ℕ → ℕ → Run → Bool → List Bool → ℕ → List ℕ → List ℕ → ℕ → Type 0
-FaultLaid procs policy now r names named at old new end = (table : List ℕ)
-    → Laid at (fault_words (setup_of procs policy table) now r names (members named)) old new end
+abbrev pub FaultLaid : Slot → Bool → ℕ → List ℕ → List ℕ → ℕ → Type 0
+FaultLaid s names at old new end = (table : List ℕ)
+    → Laid at (fault_words (setup_with s table) s.clock s.run.now names (members s.named.now)) old new end
 
 -- the words of a slot stand at the start of the lent bytes, and all else is as it was
 abbrev pub Blamed : ℕ → ℕ → ℕ → Run → Bool → List Bool → List ℕ → List ℕ → ℕ → Type 0

@@ -1,24 +1,34 @@
-// The words for a log's slot: which part of the rule it breaks, and by which tasks. A task is told by its number, 0 where there is none.
+// The words for a log's slot: which part of the rule it breaks, and by which tasks. A task is looked for by its index, and written as its
+// number.
 #![tactic(auto)]
 
-ghost use Rattle.std.specs.Prelude.{◌≡◌, ◌&&◌, not, ◌+◌, ◌≤◌, ◌<◌, min, length};
-ghost use Rattle.rules.specs.Words.{bit};
+ghost use Rattle.std.specs.Prelude.{◌≡◌, ◌&&◌, not, ◌+◌, ◌≤◌, ◌<◌, min, length, ℕ, List};
 ghost use Rattle.rules.specs.Limits.{max_tasks};
-ghost use Rattle.rules.specs.Slot.{is_present, jobs_now};
-ghost use Rattle.rules.specs.Log.{sooner};
+ghost use Rattle.rules.specs.Slot.{job_at, jobs_now, present, setup_of};
+ghost use Rattle.rules.specs.Log.{sooner, wronged};
 ghost use Rattle.puts.specs.Laid.{Laid};
-ghost use Rattle.blame.specs.Blames.{absent_task, ran_count, job_of, kind_words, job_words, pair_words, absent_words, count_words};
+ghost use Rattle.blame.specs.Blames.{ran_count, kind_words, job_words, pair_words, absent_words, count_words};
 ghost use Rattle.lists.specs.Lists.{members};
 ghost use Rattle.blame.specs.Blames.{kind_room, job_room, fault_room, blame_room};
-ghost use Rattle.blame.specs.Blames.{Overtaking, Waiting, WaitingLaid, FaultLaid, Blamed};
+ghost use Rattle.blame.specs.Blames.{Absent, Overtaking, Waiting, WaitingLaid, FaultLaid, Blamed};
 
-use choice::{kind_of, some_wait};
-use jobs::{counted, due_of, has_job, is_demoted};
+use choice::kind_of;
+use jobs::{due_of, has_job, is_demoted};
 use puts::{put_bytes, put_number};
 use rules::{Job, MAX_TASKS, Run};
 
 // The bytes that the words of every slot fit into.
 pub const BLAME_ROOM: usize = 122;
+
+// A slot of a log: the run as it stands after steps 1 to 3, what the rule goes by, and the set that the line names.
+#[derive(Clone, Copy)]
+struct Slot<'a> {
+    run: &'a Run,
+    procs: u32,
+    policy: u32,
+    clock: u32,
+    named: &'a [bool; MAX_TASKS],
+}
 
 // ---- what is wrong
 
@@ -28,145 +38,99 @@ fn is_sooner(a: Job, b: Job, policy: u32, clock: u32) -> bool
 {
     let ours = kind_of(a, policy, clock);
     let theirs = kind_of(b, policy, clock);
-    if ours < theirs {
-        return true;
-    }
-    if theirs < ours {
-        return false;
-    }
-    due_of(a) < due_of(b)
+    ours < theirs || (ours == theirs && due_of(a) < due_of(b))
 }
 
-// Whether a job is left waiting though it comes strictly before another, which runs.
-fn is_wronged(a: Job, served: bool, b: Job, runs: bool, policy: u32, clock: u32) -> bool
-    ensures { result ≡ (is_present a && not served && (runs && sooner policy clock a b)) }
-{
-    if served {
-        return false;
+impl Slot<'_> {
+    // The job of a task.
+    fn job(&self, i: usize) -> Job
+        requires { i < max_tasks }
+        ensures { result ≡ job_at self.now.run.now i }
+    {
+        self.run.tasks[i].job
     }
-    if !runs {
-        return false;
-    }
-    if has_job(a) {
-        return is_sooner(a, b, policy, clock);
-    }
-    false
-}
 
-// Whether a task runs without a job.
-fn is_absent(j: Job, runs: bool) -> bool
-    ensures { result ≡ (runs && not (is_present j)) }
-{
-    if runs { !has_job(j) } else { false }
-}
+    // Whether a task runs without a job.
+    #[tactic(auto, unfolding(rules::specs::Slot::present))]
+    fn is_absent(&self, i: usize) -> bool
+        requires { i < max_tasks }
+        ensures { result ≡ (members self.now.named.now i && not (present self.now.run.now i)) }
+    {
+        self.named[i] && !has_job(self.job(i))
+    }
 
-// The lowest task that runs without a job.
-fn absent_task(r: Run, named: &[bool; MAX_TASKS]) -> usize
-    ensures { result ≡ absent_task r (members named.now) }
-{
-    let mut i: usize = 0;
-    while i < MAX_TASKS {
-        let t = r.tasks[i];
-        let j = t.job;
-        let runs = named[i];
-        if is_absent(j, runs) {
-            return i + 1;
+    // The lowest task that runs without a job.
+    fn absent_task(&self) -> Option<usize>
+        ensures { Absent self.now.run.now self.now.named.now result }
+    {
+        for i in 0..MAX_TASKS {
+            if self.is_absent(i) {
+                return Some(i);
+            }
         }
-        i += 1;
+        None
     }
-    0
-}
 
-// Those counted so far, with one more where it is of the set.
-fn counted_if(n: usize, is: bool) -> usize
-    requires { n < max_tasks }
-    ensures { result ≡ n + bit is }
-{
-    if is { n + 1 } else { n }
-}
-
-// How many run.
-fn ran_count(named: &[bool; MAX_TASKS]) -> usize
-    ensures { result ≡ ran_count (members named.now) }
-{
-    let mut n: usize = 0;
-    let mut i: usize = 0;
-    while i < MAX_TASKS {
-        let runs = named[i];
-        n = counted_if(n, runs);
-        i += 1;
+    // How many run.
+    fn ran_count(&self) -> usize
+        ensures { result ≡ ran_count (members self.now.named.now) }
+    {
+        let named = self.named;
+        named.iter().filter(|runs| **runs).count()
     }
-    n
-}
 
-// The N of step 4: how many jobs are present.
-fn jobs_now(r: Run) -> usize
-    ensures { result ≡ jobs_now r }
-{
-    let mut n: usize = 0;
-    let mut i: usize = 0;
-    while i < MAX_TASKS {
-        let t = r.tasks[i];
-        let j = t.job;
-        n = counted(n, j);
-        i += 1;
+    // The N of step 4: how many jobs are present.
+    fn jobs_now(&self) -> usize
+        ensures { result ≡ jobs_now self.now.run.now }
+    {
+        let run = self.run;
+        run.tasks.iter().filter(|t| has_job(t.job)).count()
     }
-    n
-}
 
-// How many of so many jobs run: as many as there are processors, where there are more.
-fn due_count(procs: u32, jobs: usize) -> usize
-    ensures { result ≡ min procs jobs }
-{
-    let m = procs as usize;
-    if some_wait(jobs, procs) { m } else { jobs }
-}
+    // How many should run: as many as there are processors, where there are more jobs.
+    fn due_count(&self) -> usize
+        ensures { result ≡ min self.now.procs (jobs_now self.now.run.now) }
+    {
+        self.jobs_now().min(self.procs as usize)
+    }
 
-// The lowest task that runs though the job of the task at `at`, left waiting, comes strictly before its own.
-fn overtaking_task(r: Run, at: usize, policy: u32, clock: u32, named: &[bool; MAX_TASKS]) -> usize
-    requires { at < max_tasks }
-    ensures { Overtaking policy clock r named.now at result }
-{
-    let waiting = r.tasks[at];
-    let a = waiting.job;
-    let served = named[at];
-    let mut i: usize = 0;
-    while i < MAX_TASKS {
-        let t = r.tasks[i];
-        let b = t.job;
-        let runs = named[i];
-        if is_wronged(a, served, b, runs, policy, clock) {
-            return i + 1;
+    // Whether the job of the task at j is left waiting though it comes strictly before that of the task at i, which runs.
+    #[tactic(auto, unfolding(rules::specs::Slot::present))]
+    fn is_wronged(&self, j: usize, i: usize) -> bool
+        requires j_in_bounds { j < max_tasks }
+        requires i_in_bounds { i < max_tasks }
+        ensures { (table : List ℕ) → result ≡ wronged (setup_of self.now.procs self.now.policy table) self.now.clock self.now.run.now (members self.now.named.now) j i }
+    {
+        has_job(self.job(j))
+            && !self.named[j]
+            && self.named[i]
+            && is_sooner(self.job(j), self.job(i), self.policy, self.clock)
+    }
+
+    // The lowest task that runs though the job of the task at j, left waiting, comes strictly before its own.
+    fn overtaking_task(&self, j: usize) -> Option<usize>
+        requires { j < max_tasks }
+        ensures { Overtaking self.now j result }
+    {
+        for i in 0..MAX_TASKS {
+            if self.is_wronged(j, i) {
+                return Some(i);
+            }
         }
-        i += 1;
+        None
     }
-    0
-}
 
-// The lowest task that waits though it comes strictly before one that runs.
-fn waiting_task(r: Run, policy: u32, clock: u32, named: &[bool; MAX_TASKS]) -> usize
-    ensures { Waiting policy clock r named.now result }
-{
-    let mut j: usize = 0;
-    while j < MAX_TASKS {
-        let i = overtaking_task(r, j, policy, clock, named);
-        if 0 < i {
-            return j + 1;
+    // The lowest task that waits though it comes strictly before one that runs, and the lowest such one.
+    fn waiting_task(&self) -> Option<(usize, usize)>
+        ensures { Waiting self.now result }
+    {
+        for j in 0..MAX_TASKS {
+            if let Some(i) = self.overtaking_task(j) {
+                return Some((j, i));
+            }
         }
-        j += 1;
+        None
     }
-    0
-}
-
-// The job of a task.
-fn job_of(r: Run, task: usize) -> Job
-    requires le_task { 1 ≤ task }
-    requires task_le_max_tasks { task ≤ max_tasks }
-    ensures { result ≡ job_of r task }
-{
-    let i = task - 1;
-    let t = r.tasks[i];
-    t.job
 }
 
 // ---- in words
@@ -227,56 +191,37 @@ fn put_count(out: &mut [u8], at: usize, ran: u32, due: u32) -> usize
 }
 
 // Writes which task waits, and which runs before it; or that none does.
-fn put_waiting(
-    out: &mut [u8],
-    at: usize,
-    r: Run,
-    policy: u32,
-    clock: u32,
-    named: &[bool; MAX_TASKS],
-) -> usize
+fn put_waiting(out: &mut [u8], at: usize, slot: &Slot) -> usize
     requires { at + fault_room ≤ length out.old }
-    ensures { WaitingLaid policy clock r named.now at out.old out.new result }
+    ensures { WaitingLaid slot.now at out.old out.new result }
 {
-    let j = waiting_task(r, policy, clock, named);
-    if j == 0 {
+    let Some((j, i)) = slot.waiting_task() else {
         return put_bytes(out, at, b"keeps the rule");
-    }
-    let i = overtaking_task(r, j - 1, policy, clock, named);
-    let a = job_of(r, j);
-    let b = job_of(r, i);
-    let waiting = j as u32;
-    let running = i as u32;
+    };
+    let a = slot.job(j);
+    let b = slot.job(i);
+    let waiting = j as u32 + 1;
+    let running = i as u32 + 1;
     put_pair(out, at, waiting, a, running, b)
 }
 
 // Writes what is wrong, the first that applies.
-fn put_fault(
-    out: &mut [u8],
-    at: usize,
-    r: Run,
-    procs: u32,
-    policy: u32,
-    clock: u32,
-    names: bool,
-    named: &[bool; MAX_TASKS],
-) -> usize
+fn put_fault(out: &mut [u8], at: usize, slot: &Slot, names: bool) -> usize
     requires { at + fault_room ≤ length out.old }
-    ensures { FaultLaid procs policy clock r names named.now at out.old out.new result }
+    ensures { FaultLaid slot.now names at out.old out.new result }
 {
     if !names {
         return put_bytes(out, at, b"names a number that is no task");
     }
-    let absent = absent_task(r, named);
-    if 0 < absent {
-        return put_absent(out, at, absent as u32);
+    if let Some(i) = slot.absent_task() {
+        return put_absent(out, at, i as u32 + 1);
     }
-    let ran = ran_count(named);
-    let due = due_count(procs, jobs_now(r));
+    let ran = slot.ran_count();
+    let due = slot.due_count();
     if ran != due {
         return put_count(out, at, ran as u32, due as u32);
     }
-    put_waiting(out, at, r, policy, clock, named)
+    put_waiting(out, at, slot)
 }
 
 // Writes the words for a slot, of which the line names a set, at the start of the lent bytes and returns their length. `names` says
@@ -293,8 +238,15 @@ pub fn put_blame(
     requires { blame_room ≤ length out.old }
     ensures { Blamed procs policy clock r names named.now out.old out.new result }
 {
+    let slot = Slot {
+        run: &r,
+        procs,
+        policy,
+        clock,
+        named,
+    };
     let time_at = put_bytes(out, 0, b"slot ");
     let parted_at = put_number(out, time_at, clock);
     let at = put_bytes(out, parted_at, b": ");
-    put_fault(out, at, r, procs, policy, clock, names, named)
+    put_fault(out, at, &slot, names)
 }

@@ -1,52 +1,35 @@
 -- Going on in a line (`Goes` of Lines): by no byte, by one, by a digit, by one way and then another; and where the line ends.
 use mathlib.Core.Path.{◌≡◌, refl, ap, ◌∙◌}
-use mathlib.Core.Bool.{Bool, true, false, not, true≢false}
-use mathlib.Core.List.{List, [], ◌∷◌}
+use mathlib.Core.Bool.{Bool, true, false}
+use mathlib.Core.List.{List, []}
 use Prim.Native.Nat.{ℕ, ◌+◌, ◌*◌, ◌-◌, ◌≤◌, ◌<◌}
 use native.Mathlib.Numerals.{add-one}
-use native.Mathlib.Decide.{dec_lt}
 use native.Mathlib.Omega.{arith}
-use lib.Dec.{eqb, ltb}
 use lib.ListN.{length, get_or, drop, drop_of_length-le}
 use lib.Seq.{drop-cons}
-use borrow.Author.Tests.{ne_eqb, eqb-false, lt-ltb, ltb-true}
-use Rattle.rules.specs.Words.{pick}
+use borrow.Author.Tests.{ne_eqb}
 use Rattle.rules.specs.Limits.{max_tasks}
 use Rattle.rules.specs.Slot.{TaskSet}
 use Rattle.rules.specs.Text.{newline_byte, up_to}
-use Rattle.lists.specs.Tests.{and_left, and_right, not_is}
 use Rattle.feeds.specs.NumScan.{num_so_far, fits}
 use Rattle.feeds.specs.LineScan.{LineScan, in_time, scan_byte, scan_all}
 use Rattle.feeds.specs.Bounds.{NumSmall}
 use Rattle.feeds.proofs.Bounds.{small_field, small_scan}
-use Rattle.heard.specs.Scans.{phase_as}
-use Rattle.heard.specs.Lines.{in_line, digit_fits, Goes, HeardLine}
+use Rattle.std.proofs.Common.{inl}
+use Rattle.heard.specs.declared.Phase.{Phase}
+use Rattle.heard.specs.declared.Phase.TheVariants as Phase·
+use Rattle.heard.specs.Scans.{OfNumber, phase_as}
+use Rattle.heard.specs.Lines.{Goes, HeardLine}
 use Rattle.heard.proofs.Scanning.{fits_digit, digit_more, scan_other}
 
--- ---- what the tests say of a place
-pub line_byte : (bytes : List ℕ) (i : ℕ) → in_line bytes i ≡ true → (i < length bytes) × (get_or bytes i 0 ≡ newline_byte → ⊥)
-line_byte bytes i e = (
-  ltb-true i (length bytes) (and_left (ltb i (length bytes)) _ e),
-  eqb-false (get_or bytes i 0) newline_byte (not_is (eqb (get_or bytes i 0) newline_byte) (and_right (ltb i (length bytes)) _ e)),
-)
-
-pub line_digit : (bytes : List ℕ) (i k v : ℕ) → digit_fits bytes i k v ≡ true
-    → (i < length bytes) × (fits k v (get_or bytes i 0) ≡ true)
-line_digit bytes i k v e =
-    (ltb-true i (length bytes) (and_left (ltb i (length bytes)) _ e), and_right (ltb i (length bytes)) _ e)
-
--- no byte of the line is left
-line_over : (bytes : List ℕ) (i : ℕ) → in_line bytes i ≡ false → up_to newline_byte (drop i bytes) ≡ []
+-- ---- where no byte of the line is left: behind the piece, and at a newline
+pub past_piece : (bytes : List ℕ) (i : ℕ) → length bytes ≤ i → up_to newline_byte (drop i bytes) ≡ []
 unfolding up_to
-line_over bytes i e = at (dec_lt i (length bytes))
-  where
-    newline : (t : Bool) (b : ℕ) (s : List ℕ) → not t ≡ false → pick t [] (b ∷ s) ≡ []
-    newline true b s q = refl
-    newline false b s q = absurd (true≢false q)
+past_piece bytes i l = rw (drop_of_length-le bytes {i = i} l)
 
-    at : Dec (i < length bytes) → up_to newline_byte (drop i bytes) ≡ []
-    at (yes l) = rw (drop-cons bytes i 0 l) (newline (eqb (get_or bytes i 0) newline_byte) _ _ (rw (lt-ltb i (length bytes) l) at e))
-    at (no l) = rw (drop_of_length-le bytes {i = i} (omega arith))
+pub at_newline : (bytes : List ℕ) (i : ℕ) → i < length bytes → get_or bytes i 0 ≡ newline_byte → up_to newline_byte (drop i bytes) ≡ []
+unfolding up_to
+at_newline bytes i l e = rw (drop-cons bytes i 0 l, e)
 
 -- ---- going on
 pub goes_none : (bytes : List ℕ) (i : ℕ) (x : LineScan) → i ≤ length bytes → Goes bytes i x i x
@@ -74,13 +57,13 @@ goes_byte bytes i x l h = record {
 }
 
 -- one digit more of a number
-pub goes_digit : (bytes : List ℕ) (i p k v t low : ℕ) (rises names : Bool) (s : TaskSet) → 1 ≤ p → p ≤ 2 → i < length bytes
+pub goes_digit : (bytes : List ℕ) (i : ℕ) (p : Phase) (k v t low : ℕ) (rises names : Bool) (s : TaskSet) → OfNumber p → i < length bytes
     → fits k v (get_or bytes i 0) ≡ true
     → Goes bytes i (phase_as p k v t low rises names s) (i + 1)
     (phase_as p (k + 1) (v * 10 + (get_or bytes i 0 - 48)) t low rises names s)
-goes_digit bytes i p k v t low rises names s from to l e =
+goes_digit bytes i p k v t low rises names s o l e =
     rw (
-      digit_more p k v t low rises names s (get_or bytes i 0) from to e,
+      digit_more p k v t low rises names s (get_or bytes i 0) o e,
       scan_other (phase_as p k v t low rises names s) (get_or bytes i 0) (λ z. omega (arith, fits_digit k v (get_or bytes i 0) e)),
     ) (goes_byte bytes i _ l (λ z. omega (arith, fits_digit k v (get_or bytes i 0) e)))
 
@@ -88,15 +71,15 @@ goes_digit bytes i p k v t low rises names s from to l e =
 pub small_digit : (k v b : ℕ) → fits k v b ≡ true → NumSmall (num_so_far k v)
     → NumSmall (num_so_far (k + 1) (v * 10 + (b - 48)))
 small_digit k v b e h =
-    rw (← digit_more 1 k v 0 0 true true (λ i. false) b (omega arith) (omega arith) e) at (small_field (in_time k v) b h)
+    rw (← digit_more Phase·.Time k v 0 0 true true (λ i. false) b (inl refl) e) at (small_field (in_time k v) b h)
 
 -- at the end of the line
 pub goes_all : {bytes : List ℕ} {i j : ℕ} {x y : LineScan} (xs : List Bool) → length xs ≡ max_tasks → Goes bytes i x j y
-    → in_line bytes j ≡ false
+    → up_to newline_byte (drop j bytes) ≡ []
     → HeardLine bytes i j x y xs
 unfolding scan_all
 goes_all {bytes} {i} {j} {x} {y} xs n g e = record {
   long = n;
-  state = rw (line_over bytes j e) at g.state;
-  place = omega (arith, g.place, ap length (line_over bytes j e));
+  state = rw e at g.state;
+  place = omega (arith, g.place, ap length e);
 }

@@ -5,6 +5,8 @@ use Rattle.std.specs.Prelude.{Some, None}
 use mathlib.Core.Path.{◌≡◌, refl, sym, ap, ◌∙◌, fun_ext}
 use mathlib.Core.Bool.{Bool, true, false, ◌&&◌, or-true, or-false, and-false, true≢false}
 use mathlib.Core.List.{List, []}
+use Rattle.std.specs.Prelude.{◌⊎◌}
+use Rattle.std.proofs.Common.{inl, inr}
 use Prim.Native.Nat.{ℕ, zero, suc, ◌+◌, ◌*◌, ◌-◌, ◌^◌, ◌≤◌, ◌<◌}
 use native.Mathlib.Nat.{pow-le-pow_right}
 use native.Mathlib.Numerals.{add-one}
@@ -24,14 +26,15 @@ use Rattle.lists.specs.Tests.{and_left, and_right}
 use Rattle.feeds.specs.NumScan.{num_so_far, fits, num_byte, num_end}
 use Rattle.feeds.specs.LineScan.{LineScan, wrong, in_time, in_task, is_name, with_name, after_time}
 use Rattle.feeds.specs.LineScan.{after_task, word_tab, word_byte, field_byte, Heard, heard_bad, heard, heard_time, heard_task, line_end}
-use Rattle.feeds.specs.LineScan.{at_start}
 use Rattle.feeds.specs.LineScan.{after_return, at_return, scan_byte}
 use Rattle.feeds.specs.Bounds.{NumSmall, LineSmall}
 use Rattle.heard.specs.declared.Ended.{Ended}
 use Rattle.heard.specs.declared.Ended.TheVariants as Ended·
+use Rattle.heard.specs.declared.Phase.{Phase}
+use Rattle.heard.specs.declared.Phase.TheVariants as Phase·
 use Rattle.heard.specs.declared.Scan.{Scan}
 use Rattle.lists.specs.Lists.{members}
-use Rattle.heard.specs.Scans.{word_at, phase_as, scan_as, InNumber, ended_as}
+use Rattle.heard.specs.Scans.{word_at, phase_as, scan_as, OfNumber, InNumber, next_low, ended_as}
 
 -- ---- the set
 never_in : (n k i : ℕ) → get_or (tab (λ j. false) k n) i false ≡ false
@@ -97,6 +100,12 @@ unfolding num_end
 num_some zero v h = absurd (h refl)
 num_some (suc k) v h = refl
 
+-- a task that is heard
+pub task_heard : (k v t low : ℕ) (rises names : Bool) (s : TaskSet) {a b : Bool} {x : TaskSet} → (k ≡ 0 → ⊥)
+    → a ≡ (rises && leb low v) → b ≡ (names && is_name v) → x ≡ with_name s v
+    → heard t a b x ≡ heard_task t low rises names s (num_end (num_so_far k v))
+task_heard k v t low rises names s h p q e = rw (num_some k v h, p, q, e)
+
 -- what fits is a digit, and there are at most eight before it
 pub fits_digit : (k v b : ℕ) → fits k v b ≡ true → (48 ≤ b) × (k ≤ 8)
 fits_digit k v b e =
@@ -114,12 +123,10 @@ no_tab : (k v b : ℕ) → fits k v b ≡ true → eqb b tab_byte ≡ false
 no_tab k v b e = ne_eqb b tab_byte (λ z. omega (arith, fits_digit k v b e))
 
 -- the number so far of a small line is small
-pub small_number : (p k v t low : ℕ) (rises names : Bool) (s : TaskSet) → 1 ≤ p → p ≤ 2
+pub small_number : (p : Phase) (k v t low : ℕ) (rises names : Bool) (s : TaskSet) → OfNumber p
     → LineSmall (phase_as p k v t low rises names s) → NumSmall (num_so_far k v)
-small_number zero k v t low rises names s a b h = absurd (omega arith)
-small_number (suc zero) k v t low rises names s a b h = h
-small_number (suc (suc zero)) k v t low rises names s a b h = h.2
-small_number (suc (suc (suc p))) k v t low rises names s a b h = absurd (omega arith)
+small_number p k v t low rises names s (inl e) h = rw e at h
+small_number p k v t low rises names s (inr e) h = (rw e at h).2
 
 -- ---- a number that ends
 -- the next task is awaited, of which `low` is the least that rises
@@ -128,30 +135,28 @@ next_task low heard_bad = wrong
 next_task low (heard t rises names set) = in_task t low rises names set 0 0
 
 -- at a tab within a number: what is heard there, and then the next task
-tab_next : (p k v t low : ℕ) (rises names : Bool) (s : TaskSet) → 1 ≤ p → p ≤ 2
+tab_next : (p : Phase) (k v t low : ℕ) (rises names : Bool) (s : TaskSet) → OfNumber p
     → field_byte (phase_as p k v t low rises names s) tab_byte
-    ≡ next_task (pick (eqb p 2) (v + 1) 0) (line_end (phase_as p k v t low rises names s))
+    ≡ next_task (next_low p v) (line_end (phase_as p k v t low rises names s))
 unfolding field_byte line_end
-tab_next zero k v t low rises names s a b = absurd (omega arith)
-tab_next (suc zero) k v t low rises names s a b = go k
+tab_next p k v t low rises names s (inl e) = rw e (go k)
   where
     go : (k : ℕ) → after_time (num_end (num_so_far k v)) ≡ next_task 0 (heard_time (num_end (num_so_far k v)))
     go zero = unfold num_end in refl
     go (suc k) = unfold num_end in refl
-tab_next (suc (suc zero)) k v t low rises names s a b = rw (add-one v) (go k)
+tab_next p k v t low rises names s (inr e) = rw (e, add-one v) (go k)
   where
     go : (k : ℕ) → after_task t low rises names s (num_end (num_so_far k v))
         ≡ next_task (suc v) (heard_task t low rises names s (num_end (num_so_far k v)))
     go zero = unfold num_end in refl
     go (suc k) = unfold num_end in refl
-tab_next (suc (suc (suc p))) k v t low rises names s a b = absurd (omega arith)
 
 -- what a field says at its end, and the state behind the tab
-module _ (s : Scan) (xs ys : List Bool) (n : InNumber s) (low : ℕ) (l : low ≡ pick (eqb s.phase 2) (s.value + 1) 0) (x : Ended)
+module _ (s : Scan) (xs ys : List Bool) (n : InNumber s) (low : ℕ) (l : low ≡ next_low s.phase s.value) (x : Ended)
     (e : ended_as x ys ≡ line_end (scan_as s xs)) where
   behind : next_task low (ended_as x ys) ≡ field_byte (scan_as s xs) tab_byte
   behind =
-      rw (e, l) (sym (tab_next s.phase s.digits s.value s.time s.low s.rises s.names (members xs) n.from n.to))
+      rw (e, l) (sym (tab_next s.phase s.digits s.value s.time s.low s.rises s.names (members xs) n.of))
 
   pub after_bad : x ≡ Ended·.Bad → wrong ≡ field_byte (scan_as s xs) tab_byte
   after_bad q = ap (λ (z : Ended). next_task low (ended_as z ys)) (sym q) ∙ behind
@@ -161,22 +166,18 @@ module _ (s : Scan) (xs ys : List Bool) (n : InNumber s) (low : ℕ) (l : low �
   after_slot t r m q = ap (λ (z : Ended). next_task low (ended_as z ys)) (sym q) ∙ behind
 
 -- ---- a number that goes on
-pub digit_more : (p k v t low : ℕ) (rises names : Bool) (s : TaskSet) (b : ℕ) → 1 ≤ p → p ≤ 2 → fits k v b ≡ true
+pub digit_more : (p : Phase) (k v t low : ℕ) (rises names : Bool) (s : TaskSet) (b : ℕ) → OfNumber p → fits k v b ≡ true
     → phase_as p (k + 1) (v * 10 + (b - 48)) t low rises names s ≡ field_byte (phase_as p k v t low rises names s) b
 unfolding field_byte num_byte
-digit_more zero k v t low rises names s b x y e = absurd (omega arith)
-digit_more (suc zero) k v t low rises names s b x y e = rw (no_tab k v b e, e, add-one k)
-digit_more (suc (suc zero)) k v t low rises names s b x y e = rw (no_tab k v b e, e, add-one k)
-digit_more (suc (suc (suc p))) k v t low rises names s b x y e = absurd (omega arith)
+digit_more p k v t low rises names s b (inl q) e = rw (q, no_tab k v b e, e, add-one k)
+digit_more p k v t low rises names s b (inr q) e = rw (q, no_tab k v b e, e, add-one k)
 
-pub number_wrong : (p k v t low : ℕ) (rises names : Bool) (s : TaskSet) (b : ℕ) → 1 ≤ p → p ≤ 2 → fits k v b ≡ false
+pub number_wrong : (p : Phase) (k v t low : ℕ) (rises names : Bool) (s : TaskSet) (b : ℕ) → OfNumber p → fits k v b ≡ false
     → (b ≡ tab_byte → ⊥)
     → wrong ≡ field_byte (phase_as p k v t low rises names s) b
 unfolding field_byte num_byte
-number_wrong zero k v t low rises names s b x y e h = absurd (omega arith)
-number_wrong (suc zero) k v t low rises names s b x y e h = rw (ne_eqb b tab_byte h, e)
-number_wrong (suc (suc zero)) k v t low rises names s b x y e h = rw (ne_eqb b tab_byte h, e)
-number_wrong (suc (suc (suc p))) k v t low rises names s b x y e h = absurd (omega arith)
+number_wrong p k v t low rises names s b (inl q) e h = rw (q, ne_eqb b tab_byte h, e)
+number_wrong p k v t low rises names s b (inr q) e h = rw (q, ne_eqb b tab_byte h, e)
 
 -- ---- the word
 word_step : (k b : ℕ) → field_byte (word_at k) b ≡ pick (eqb b tab_byte) (word_tab (drop k slot_word)) (word_byte (drop k slot_word) b)
@@ -203,94 +204,54 @@ pub word_too_long : (k b : ℕ) → 4 ≤ k → (b ≡ tab_byte → ⊥) → fie
 word_too_long k b h q = word_step k b ∙ rw (word_over k h, ne_eqb b tab_byte q)
 
 -- ---- by the phase
-pub not_first : (p : ℕ) → (p ≡ 0 → ⊥) → 1 ≤ p
-not_first zero h = absurd (h refl)
-not_first (suc p) h = omega arith
-
--- no byte of it was read
-pub word_start : (k v t low : ℕ) (rises names : Bool) (s : TaskSet) (p : ℕ) → p ≡ 0 → eqb k 0
-    ≡ at_start (phase_as p k v t low rises names s)
-word_start zero v t low rises names s p e = rw e
-word_start (suc k) v t low rises names s p e = rw e (ne_eqb (suc k) 0 (λ z. omega arith))
-
-pub past_start : (p k v t low : ℕ) (rises names : Bool) (s : TaskSet) → (p ≡ 0 → ⊥) → false
-    ≡ at_start (phase_as p k v t low rises names s)
-past_start zero k v t low rises names s h = absurd (h refl)
-past_start (suc zero) k v t low rises names s h = refl
-past_start (suc (suc zero)) k v t low rises names s h = refl
-past_start (suc (suc (suc zero))) k v t low rises names s h = refl
-past_start (suc (suc (suc (suc p)))) k v t low rises names s h = refl
-
 -- neither a time nor a task ends here, and no return stands
-pub word_ended : (p k v t low : ℕ) (rises names : Bool) (s : TaskSet) → (p ≡ 2 → ⊥) → (p ≡ 1 → ⊥) → p < 4
+word_ended : (k : ℕ) → heard_bad ≡ line_end (word_at k)
+unfolding line_end
+word_ended zero = refl
+word_ended (suc k) = refl
+
+pub none_ended : (p : Phase) (k v t low : ℕ) (rises names : Bool) (s : TaskSet) → (p ≡ Phase·.Word) ⊎ (p ≡ Phase·.Wrong)
     → heard_bad ≡ line_end (phase_as p k v t low rises names s)
 unfolding line_end
-word_ended zero zero v t low rises names s a b h = refl
-word_ended zero (suc k) v t low rises names s a b h = refl
-word_ended (suc zero) k v t low rises names s a b h = absurd (b refl)
-word_ended (suc (suc zero)) k v t low rises names s a b h = absurd (a refl)
-word_ended (suc (suc (suc zero))) k v t low rises names s a b h = refl
-word_ended (suc (suc (suc (suc p)))) k v t low rises names s a b h = absurd (omega arith)
-
-pub time_ended : (p k v t low : ℕ) (rises names : Bool) (s : TaskSet) → p ≡ 1
-    → heard_time (num_end (num_so_far k v)) ≡ line_end (phase_as p k v t low rises names s)
-unfolding line_end
-time_ended p k v t low rises names s e = rw e
-
-pub task_ended : (p k v t low : ℕ) (rises names : Bool) (s : TaskSet) → p ≡ 2
-    → heard_task t low rises names s (num_end (num_so_far k v)) ≡ line_end (phase_as p k v t low rises names s)
-unfolding line_end
-task_ended p k v t low rises names s e = rw e
+none_ended p k v t low rises names s (inl e) = rw e (word_ended k)
+none_ended p k v t low rises names s (inr e) = rw e
 
 -- what is wrong stays wrong, and what a return ended becomes so
-pub wrong_on : (p k v t low : ℕ) (rises names : Bool) (s : TaskSet) (b : ℕ) → 3 ≤ p
+pub wrong_on : (p : Phase) (k v t low : ℕ) (rises names : Bool) (s : TaskSet) (b : ℕ) → (p ≡ Phase·.Wrong) ⊎ (p ≡ Phase·.Returned)
     → wrong ≡ field_byte (phase_as p k v t low rises names s) b
 unfolding field_byte
-wrong_on zero k v t low rises names s b h = absurd (omega arith)
-wrong_on (suc zero) k v t low rises names s b h = absurd (omega arith)
-wrong_on (suc (suc zero)) k v t low rises names s b h = absurd (omega arith)
-wrong_on (suc (suc (suc zero))) k v t low rises names s b h = refl
-wrong_on (suc (suc (suc (suc p)))) k v t low rises names s b h = refl
+wrong_on p k v t low rises names s b (inl e) = rw e
+wrong_on p k v t low rises names s b (inr e) = rw e
 
 -- ---- a return
 pub scan_other : (x : LineScan) (b : ℕ) → (b ≡ return_byte → ⊥) → field_byte x b ≡ scan_byte x b
 unfolding scan_byte
 scan_other x b h = rw (ne_eqb b return_byte h)
 
--- behind another
-pub return_twice : (p k v t low : ℕ) (rises names : Bool) (s : TaskSet) → 4 ≤ p
-    → (wrong ≡ scan_byte (phase_as p k v t low rises names s) return_byte)
-    × (heard t rises names s ≡ line_end (phase_as p k v t low rises names s))
-unfolding scan_byte at_return line_end
-return_twice zero k v t low rises names s h = absurd (omega arith)
-return_twice (suc zero) k v t low rises names s h = absurd (omega arith)
-return_twice (suc (suc zero)) k v t low rises names s h = absurd (omega arith)
-return_twice (suc (suc (suc zero))) k v t low rises names s h = absurd (omega arith)
-return_twice (suc (suc (suc (suc p)))) k v t low rises names s h = (refl, refl)
-
 -- behind what was heard so far
-return_once : (p k v t low : ℕ) (rises names : Bool) (s : TaskSet) → p < 4
+return_once : (p : Phase) (k v t low : ℕ) (rises names : Bool) (s : TaskSet) → (p ≡ Phase·.Returned → ⊥)
     → after_return (line_end (phase_as p k v t low rises names s)) ≡ scan_byte (phase_as p k v t low rises names s) return_byte
 unfolding scan_byte at_return line_end
-return_once zero zero v t low rises names s h = refl
-return_once zero (suc k) v t low rises names s h = refl
-return_once (suc zero) k v t low rises names s h = refl
-return_once (suc (suc zero)) k v t low rises names s h = refl
-return_once (suc (suc (suc zero))) k v t low rises names s h = refl
-return_once (suc (suc (suc (suc p)))) k v t low rises names s h = absurd (omega arith)
+return_once Phase·.Word zero v t low rises names s h = refl
+return_once Phase·.Word (suc k) v t low rises names s h = refl
+return_once Phase·.Time k v t low rises names s h = refl
+return_once Phase·.Task k v t low rises names s h = refl
+return_once Phase·.Wrong k v t low rises names s h = refl
+return_once Phase·.Returned k v t low rises names s h = absurd (h refl)
 
 -- what the line says before the return is what it is heard as
-pub return_heard : (s : Scan) (xs ys : List Bool) → s.phase < 4 → (x : Ended) → ended_as x ys ≡ line_end (scan_as s xs)
-    → after_return (ended_as x ys) ≡ scan_byte (scan_as s xs) return_byte
-return_heard s xs ys h x e =
+pub return_heard : (s : Scan) (xs : List Bool) (x : Heard) → (s.phase ≡ Phase·.Returned → ⊥) → x ≡ line_end (scan_as s xs)
+    → after_return x ≡ scan_byte (scan_as s xs) return_byte
+return_heard s xs x h e =
     ap after_return e ∙ return_once s.phase s.digits s.value s.time s.low s.rises s.names (members xs) h
 
 -- the word goes on, or not
-pub in_word_lem : (p k v t low : ℕ) (rises names : Bool) (s : TaskSet) (b : ℕ) (x : LineScan) → p ≡ 0 → field_byte (word_at k) b ≡ x
-    → x ≡ field_byte (phase_as p k v t low rises names s) b
+pub in_word_lem : (p : Phase) (k v t low : ℕ) (rises names : Bool) (s : TaskSet) (b : ℕ) (x : LineScan) → p ≡ Phase·.Word
+    → field_byte (word_at k) b ≡ x → x ≡ field_byte (phase_as p k v t low rises names s) b
 in_word_lem p k v t low rises names s b x e q = rw e (sym q)
 
-pub word_next : (p k v t low : ℕ) (rises names : Bool) (s : TaskSet) → p ≡ 0 → phase_as p k v t low rises names s ≡ word_at k
+pub word_next : (p : Phase) (k v t low : ℕ) (rises names : Bool) (s : TaskSet) → p ≡ Phase·.Word
+    → phase_as p k v t low rises names s ≡ word_at k
 word_next p k v t low rises names s e = rw e
 
 -- a tab or not, it is wrong

@@ -1,24 +1,17 @@
 -- A line heard within a piece of bytes (`scan_all` of feeds, LineScan), said by what is left of it: going on in a line changes neither the
 -- state at its end nor where that is.
-use Rattle.std.specs.Prelude.{◌≡◌, Bool, ◌&&◌, not, List, ℕ, ◌+◌, ◌≤◌, eqb, ltb, length, get_or, drop}
+use Rattle.std.specs.Prelude.{◌≡◌, Bool, List, ℕ, ◌+◌, ◌≤◌, length, drop}
 use Rattle.rules.specs.Limits.{max_tasks}
 use Rattle.rules.specs.Text.{newline_byte, up_to}
-use Rattle.feeds.specs.NumScan.{num_so_far, fits}
+use Rattle.feeds.specs.NumScan.{num_so_far}
 use Rattle.feeds.specs.LineScan.{LineScan, scan_all}
 use Rattle.feeds.specs.Bounds.{NumSmall, LineSmall}
 use Rattle.heard.specs.declared.Scan.{Scan}
-
--- a byte of the line stands at a place
-abbrev pub in_line : List ℕ → ℕ → Bool
-in_line bytes i = ltb i (length bytes) && not (eqb (get_or bytes i 0) newline_byte)
-
--- a digit stands there that fits a number of so many digits
-abbrev pub digit_fits : List ℕ → ℕ → ℕ → ℕ → Bool
-digit_fits bytes i k v = ltb i (length bytes) && fits k v (get_or bytes i 0)
+use Rattle.heard.specs.Scans.{OfNumber}
 
 -- a number that is being read is small
 abbrev pub NumberSmall : Scan → Type 0
-NumberSmall s = 1 ≤ s.phase → s.phase ≤ 2 → NumSmall (num_so_far s.digits s.value)
+NumberSmall s = OfNumber s.phase → NumSmall (num_so_far s.digits s.value)
 
 -- from a place of a piece and a state to a place further on and the state there
 pub record Goes (bytes : List ℕ) (i : ℕ) (x : LineScan) (j : ℕ) (y : LineScan) : Type 0 where

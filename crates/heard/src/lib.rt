@@ -1,8 +1,7 @@
 // A line of a slot log, heard byte by byte in a state that does not grow with it; the tasks that it names stand in a lent set.
 #![tactic(auto)]
 
-ghost use Rattle.std.specs.Prelude.{◌≡◌, Bool, List, ◌+◌, ◌*◌, ◌-◌, ◌≤◌, ◌<◌, ◌^◌, eqb, length, get_or};
-ghost use Rattle.rules.specs.Words.{pick};
+ghost use Rattle.std.specs.Prelude.{◌≡◌, Bool, List, ◌+◌, ◌*◌, ◌-◌, ◌≤◌, ◌<◌, ◌^◌, length, get_or};
 ghost use Rattle.rules.specs.Limits.{max_tasks};
 ghost use Rattle.rules.specs.Text.{return_byte, tab_byte};
 ghost use Rattle.rules.specs.Log.{slot_word};
@@ -10,18 +9,29 @@ ghost use Rattle.lists.specs.Lists.{members};
 ghost use Rattle.feeds.specs.NumScan.{fits, num_so_far, num_end};
 ghost use Rattle.feeds.specs.LineScan.{is_name, with_name, field_byte, scan_byte, heard_time, heard_task, line_end, at_start};
 ghost use Rattle.feeds.specs.Bounds.{LineSmall};
-ghost use Rattle.heard.specs.Scans.{InNumber, start_of, scan_as, ended_as};
-ghost use Rattle.heard.specs.Lines.{in_line, digit_fits, NumberSmall, Goes, HeardLine};
+ghost use Rattle.heard.specs.Scans.{InWord, InNumber, start_of, next_low, scan_as, ended_as};
+ghost use Rattle.heard.specs.Lines.{NumberSmall, Goes, HeardLine};
 
 use rules::MAX_TASKS;
 
+// What is heard of a line: its word, its time, a task; that it cannot become a line any more; that it is one, and a return stands behind
+// it.
+#[derive(Clone, Copy)]
+pub enum Phase {
+    Word,
+    Time,
+    Task,
+    Wrong,
+    Returned,
+}
+
 // How far a line is heard: its phase, and what that phase goes by: the bytes of the word that were read, or the digits of a number and
 // what they are worth; of the tasks the time before them, the least number that would rise, and whether all before rise and are tasks.
-// Behind a return the time is that of the line, and all its tasks are those before. A struct and not an enum: the fields stay in registers
-// from byte to byte.
+// Behind a return the time is that of the line, and all its tasks are those before. The phases hold none of this: the fields stay in
+// registers from byte to byte.
 #[derive(Clone, Copy)]
 pub struct Scan {
-    pub phase: u32,
+    pub phase: Phase,
     pub digits: u32,
     pub value: u32,
     pub time: u32,
@@ -30,17 +40,8 @@ pub struct Scan {
     pub names: bool,
 }
 
-// The phases of a line: its word, its time, its tasks; that it cannot become a line any more; that it is one, and a return stands behind
-// it.
-const WORD: u32 = 0;
-
-const TIME: u32 = 1;
-
-const TASK: u32 = 2;
-
-const WRONG: u32 = 3;
-
-const RETURNED: u32 = 4;
+// The byte that ends a line.
+const NEWLINE: u8 = b'\n';
 
 // What a line says at its end, beside the set of the tasks that it names.
 #[derive(Clone, Copy)]
@@ -55,26 +56,7 @@ pub enum Ended {
 fn fits(digits: u32, value: u32, b: u8) -> bool
     ensures { result ≡ fits digits value b }
 {
-    if b < b'0' {
-        return false;
-    }
-    if b'9' < b {
-        return false;
-    }
-    if 8 < digits {
-        return false;
-    }
-    if digits == 1 {
-        return value != 0;
-    }
-    true
-}
-
-// A byte as a wider number.
-fn wide(x: u8) -> u32
-    ensures { result ≡ x }
-{
-    x as u32
+    matches!(b, b'0'..=b'9') && digits <= 8 && (digits != 1 || value != 0)
 }
 
 // What digits are worth with one more.
@@ -83,7 +65,7 @@ fn with_digit(value: u32, b: u8) -> u32
     requires le_b { 48 ≤ b }
     ensures { result ≡ value * 10 + (b - 48) }
 {
-    value * 10 + wide(b - b'0')
+    value * 10 + u32::from(b - b'0')
 }
 
 // ---- tasks
@@ -92,10 +74,7 @@ fn with_digit(value: u32, b: u8) -> u32
 fn is_task(value: u32) -> bool
     ensures { result ≡ is_name value }
 {
-    if value < 1 {
-        return false;
-    }
-    value as usize <= MAX_TASKS
+    1 <= value && value as usize <= MAX_TASKS
 }
 
 // Puts a task into the set; a number that is no task has no place in it.
@@ -134,19 +113,14 @@ fn end_task(s: Scan, named: &mut [bool; MAX_TASKS]) -> Ended
         ≡ heard_task s.time s.low s.rises s.names (members named.old)
         (num_end (num_so_far s.digits s.value))) }
 {
-    let digits = s.digits;
-    let value = s.value;
-    let low = s.low;
-    if digits == 0 {
+    if s.digits == 0 {
         return Ended::Bad;
     }
-    name_task(named, value);
-    let risen = low <= value;
-    let task = is_task(value);
+    name_task(named, s.value);
     Ended::Slot {
         time: s.time,
-        rises: s.rises & risen,
-        names: s.names & task,
+        rises: s.rises && s.low <= s.value,
+        names: s.names && is_task(s.value),
     }
 }
 
@@ -156,22 +130,15 @@ pub fn line_end(s: Scan, named: &mut [bool; MAX_TASKS]) -> Ended
     ensures { (length named.new ≡ max_tasks)
         × (ended_as result named.new ≡ line_end (scan_as s named.old)) }
 {
-    let phase = s.phase;
-    let digits = s.digits;
-    let value = s.value;
-    if phase == TASK {
-        return end_task(s, named);
-    }
-    if phase == TIME {
-        return end_time(digits, value, named);
-    }
-    if phase < RETURNED {
-        return Ended::Bad;
-    }
-    Ended::Slot {
-        time: s.time,
-        rises: s.rises,
-        names: s.names,
+    match s.phase {
+        Phase::Word | Phase::Wrong => Ended::Bad,
+        Phase::Time => end_time(s.digits, s.value, named),
+        Phase::Task => end_task(s, named),
+        Phase::Returned => Ended::Slot {
+            time: s.time,
+            rises: s.rises,
+            names: s.names,
+        },
     }
 }
 
@@ -182,7 +149,7 @@ pub fn line_start() -> Scan
     ensures { result ≡ start_of }
 {
     Scan {
-        phase: WORD,
+        phase: Phase::Word,
         digits: 0,
         value: 0,
         time: 0,
@@ -196,12 +163,7 @@ pub fn line_start() -> Scan
 pub fn is_start(s: Scan) -> bool
     ensures { (xs : List Bool) → result ≡ at_start (scan_as s xs) }
 {
-    let phase = s.phase;
-    let digits = s.digits;
-    if phase == WORD {
-        return digits == 0;
-    }
-    false
+    matches!(s.phase, Phase::Word) && s.digits == 0
 }
 
 // The byte of the word at a place.
@@ -219,20 +181,23 @@ fn letter(place: u32) -> u8
 
 // A byte within the word, or the tab behind it.
 fn word_byte(s: Scan, b: u8) -> Scan
-    requires { s.phase ≡ 0 }
+    requires { InWord s }
     ensures { (xs : List Bool) → scan_as result xs ≡ field_byte (scan_as s xs) b }
 {
     let read = s.digits;
     if 4 <= read {
         if b == b'\t' {
             return Scan {
-                phase: TIME,
+                phase: Phase::Time,
                 digits: 0,
                 value: 0,
                 ..s
             };
         }
-        return Scan { phase: WRONG, ..s };
+        return Scan {
+            phase: Phase::Wrong,
+            ..s
+        };
     }
     if b == letter(read) {
         return Scan {
@@ -240,15 +205,21 @@ fn word_byte(s: Scan, b: u8) -> Scan
             ..s
         };
     }
-    Scan { phase: WRONG, ..s }
+    Scan {
+        phase: Phase::Wrong,
+        ..s
+    }
 }
 
 // The least task that rises behind a field: any behind the time, and behind a task one that is larger.
-fn next_low(phase: u32, value: u32) -> u32
+fn next_low(phase: Phase, value: u32) -> u32
     requires { value < 10 ^ 9 }
-    ensures { result ≡ pick (eqb phase 2) (value + 1) 0 }
+    ensures { result ≡ next_low phase value }
 {
-    if phase == TASK { value + 1 } else { 0 }
+    match phase {
+        Phase::Task => value + 1,
+        _ => 0,
+    }
 }
 
 // A tab behind a number: a task is to come.
@@ -258,21 +229,22 @@ fn after_field(s: Scan, named: &mut [bool; MAX_TASKS]) -> Scan
     ensures { (length named.new ≡ max_tasks)
         × (scan_as result named.new ≡ field_byte (scan_as s named.old) tab_byte) }
 {
-    let phase = s.phase;
-    let value = s.value;
-    let low = next_low(phase, value);
+    let low = next_low(s.phase, s.value);
     let ended = line_end(s, named);
     let Ended::Slot { time, rises, names } = ended else {
-        return Scan { phase: WRONG, ..s };
+        return Scan {
+            phase: Phase::Wrong,
+            ..s
+        };
     };
     Scan {
-        phase: TASK,
+        phase: Phase::Task,
         digits: 0,
         value: 0,
-        time: time,
-        low: low,
-        rises: rises,
-        names: names,
+        time,
+        low,
+        rises,
+        names,
     }
 }
 
@@ -283,20 +255,20 @@ fn number_byte(s: Scan, b: u8, named: &mut [bool; MAX_TASKS]) -> Scan
     ensures { (length named.new ≡ max_tasks)
         × (scan_as result named.new ≡ field_byte (scan_as s named.old) b) }
 {
-    let digits = s.digits;
-    let value = s.value;
     if b == b'\t' {
         return after_field(s, named);
     }
-    if fits(digits, value, b) {
-        let longer = with_digit(value, b);
+    if fits(s.digits, s.value, b) {
         return Scan {
-            digits: digits + 1,
-            value: longer,
+            digits: s.digits + 1,
+            value: with_digit(s.value, b),
             ..s
         };
     }
-    Scan { phase: WRONG, ..s }
+    Scan {
+        phase: Phase::Wrong,
+        ..s
+    }
 }
 
 // A return: behind a time or a task the line is heard, and only its newline may follow.
@@ -305,21 +277,22 @@ fn at_return(s: Scan, named: &mut [bool; MAX_TASKS]) -> Scan
     ensures { (length named.new ≡ max_tasks)
         × (scan_as result named.new ≡ scan_byte (scan_as s named.old) return_byte) }
 {
-    let phase = s.phase;
-    let lost = Scan { phase: WRONG, ..s };
-    if RETURNED <= phase {
+    let lost = Scan {
+        phase: Phase::Wrong,
+        ..s
+    };
+    if let Phase::Returned = s.phase {
         return lost;
     }
-    let ended = line_end(s, named);
-    let Ended::Slot { time, rises, names } = ended else {
-        return lost;
-    };
-    Scan {
-        phase: RETURNED,
-        time: time,
-        rises: rises,
-        names: names,
-        ..s
+    match line_end(s, named) {
+        Ended::Bad => lost,
+        Ended::Slot { time, rises, names } => Scan {
+            phase: Phase::Returned,
+            time,
+            rises,
+            names,
+            ..s
+        },
     }
 }
 
@@ -330,78 +303,48 @@ fn scan_byte(s: Scan, b: u8, named: &mut [bool; MAX_TASKS]) -> Scan
     ensures { (length named.new ≡ max_tasks)
         × (scan_as result named.new ≡ scan_byte (scan_as s named.old) b) }
 {
-    let phase = s.phase;
     if b == b'\r' {
         return at_return(s, named);
     }
-    if phase == WORD {
-        return word_byte(s, b);
+    match s.phase {
+        Phase::Word => word_byte(s, b),
+        Phase::Time | Phase::Task => number_byte(s, b, named),
+        Phase::Wrong | Phase::Returned => Scan {
+            phase: Phase::Wrong,
+            ..s
+        },
     }
-    if WRONG <= phase {
-        return Scan { phase: WRONG, ..s };
-    }
-    number_byte(s, b, named)
 }
 
 // ---- a line within a piece of bytes
 
-// Whether a byte of the line stands at a place: the piece goes on there, and it is no newline.
-fn in_line(piece: &[u8], i: usize) -> bool
-    ensures { result ≡ in_line piece.now i }
-{
-    if i < piece.len() {
-        return piece[i] != b'\n';
-    }
-    false
-}
-
-// Whether a digit stands at a place that fits the number so far.
-fn digit_fits(piece: &[u8], i: usize, digits: u32, value: u32) -> bool
-    ensures { result ≡ digit_fits piece.now i digits value }
-{
-    if i < piece.len() {
-        return fits(digits, value, piece[i]);
-    }
-    false
-}
-
-// The digits of a number from a place on, as far as they fit, in a loop that asks nothing else; where they end stands in `at`.
-fn scan_digits(s: Scan, piece: &[u8], from: usize, at: &mut usize) -> Scan
+// The digits of a number from a place on, as far as they fit, in a loop that asks nothing else, and where they end.
+fn scan_digits(s: Scan, piece: &[u8], from: usize) -> (Scan, usize)
     requires in_number { InNumber s }
     requires from_in_bounds { from ≤ length piece.now }
-    ensures { (xs : List Bool) → Goes piece.now from (scan_as s xs) at.new (scan_as result xs) }
+    ensures { (xs : List Bool) → Goes piece.now from (scan_as s xs) result.1 (scan_as result.0 xs) }
 {
     let mut digits = s.digits;
     let mut value = s.value;
     let mut i = from;
-    while digit_fits(piece, i, digits, value) {
+    while i < piece.len() && fits(digits, value, piece[i]) {
         value = with_digit(value, piece[i]);
         digits += 1;
         i += 1;
     }
-    *at = i;
-    Scan {
-        digits: digits,
-        value: value,
-        ..s
-    }
+    (Scan { digits, value, ..s }, i)
 }
 
 // The same where a number is being read; any other state stays where it is.
-fn scan_number(s: Scan, piece: &[u8], from: usize, at: &mut usize) -> Scan
+fn scan_number(s: Scan, piece: &[u8], from: usize) -> (Scan, usize)
     requires number_small { NumberSmall s }
     requires from_in_bounds { from ≤ length piece.now }
-    ensures { (xs : List Bool) → Goes piece.now from (scan_as s xs) at.new (scan_as result xs) }
+    ensures { (xs : List Bool) → Goes piece.now from (scan_as s xs) result.1 (scan_as result.0 xs) }
 {
-    let phase = s.phase;
-    *at = from;
-    if phase == WORD {
-        return s;
+    match s.phase {
+        Phase::Time | Phase::Task => scan_digits(s, piece, from),
+        _ => (s, from),
     }
-    if TASK < phase {
-        return s;
-    }
-    scan_digits(s, piece, from, at)
 }
 
 // The line from a place on, up to its newline or the end of the piece; where that is stands in `at`.
@@ -420,10 +363,9 @@ pub fn scan_line(
 {
     let mut i = from;
     let mut scan = s;
-    while in_line(piece, i) {
+    while i < piece.len() && piece[i] != NEWLINE {
         scan = scan_byte(scan, piece[i], named);
-        let k = i + 1;
-        scan = scan_number(scan, piece, k, &mut i);
+        (scan, i) = scan_number(scan, piece, i + 1);
     }
     *at = i;
     scan

@@ -3,8 +3,8 @@ use mathlib.Core.Path.{sym, ◌∙◌}
 use Rattle.heard.proofs.Scanning.{fits_digit, small_worth, digit_more, number_wrong}
 use Rattle.heard.proofs.number_byte.Goals as goal
 
-pub with_digit-longer-requires : goal.with_digit-longer-requires
-with_digit-longer-requires c =
+pub with_digit-requires : goal.with_digit-requires
+with_digit-requires c =
     let s = c.args.s in
     let d = fits_digit s.digits s.value c.args.b (sym c.fits.ensures ∙ c.if-fits.true) in
     record { value_bound = small_worth s.digits s.value c.requires.in_number.small d.1; le_b = d.0 }
@@ -13,8 +13,8 @@ pub returns-then-fits : goal.returns-then-fits
 returns-then-fits c =
     let s = c.args.s in (
       c.requires.named_len,
-      rw c.with_digit-longer.ensures (digit_more s.phase s.digits s.value s.time s.low s.rises s.names _ c.args.b
-          c.requires.in_number.from c.requires.in_number.to (sym c.fits.ensures ∙ c.if-fits.true)),
+      rw c.with_digit.ensures (digit_more s.phase s.digits s.value s.time s.low s.rises s.names _ c.args.b
+          c.requires.in_number.of (sym c.fits.ensures ∙ c.if-fits.true)),
     )
 
 pub returns : goal.returns
@@ -22,5 +22,5 @@ returns c =
     let s = c.args.s in (
       c.requires.named_len,
       number_wrong s.phase s.digits s.value s.time s.low s.rises s.names _ c.args.b
-          c.requires.in_number.from c.requires.in_number.to (sym c.fits.ensures ∙ c.if-fits.false) c.if-b-eq9.false,
+          c.requires.in_number.of (sym c.fits.ensures ∙ c.if-fits.false) c.if-b-eq9.false,
     )

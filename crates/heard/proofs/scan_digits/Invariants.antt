@@ -10,11 +10,11 @@ use Rattle.heard.specs.Scans.{scan_as, phase_as}
 use Rattle.heard.specs.Lines.{Goes}
 use Rattle.heard.proofs.scan_digits.Given as goal
 
-abbrev pub invariant-loop-value : goal.invariant-loop-value
-invariant-loop-value l =
+abbrev pub invariant-loop-i : goal.invariant-loop-i
+invariant-loop-i l =
     NumSmall (num_so_far l.digits l.value)
     × ((xs : List Bool) → Goes l.piece l.from (scan_as l.s xs) l.i
     (phase_as l.s.phase l.digits l.value l.s.time l.s.low l.s.rises l.s.names (members xs)))
 
-abbrev pub decreases-loop-value : goal.decreases-loop-value
-decreases-loop-value l = length l.piece - l.i
+abbrev pub decreases-loop-i : goal.decreases-loop-i
+decreases-loop-i l = length l.piece - l.i

@@ -7,9 +7,9 @@ use Rattle.heard.specs.Scans.{scan_as}
 use Rattle.heard.specs.Lines.{Goes}
 use Rattle.heard.proofs.scan_line.Given as goal
 
-abbrev pub invariant-loop-named : goal.invariant-loop-named
-invariant-loop-named l =
+abbrev pub invariant-loop-i : goal.invariant-loop-i
+invariant-loop-i l =
     (length l.named ≡ max_tasks) × Goes l.piece l.from (scan_as l.initial.scan l.initial.named) l.i (scan_as l.scan l.named)
 
-abbrev pub decreases-loop-named : goal.decreases-loop-named
-decreases-loop-named l = length l.piece - l.i
+abbrev pub decreases-loop-i : goal.decreases-loop-i
+decreases-loop-i l = length l.piece - l.i
