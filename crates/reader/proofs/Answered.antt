@@ -55,7 +55,7 @@ module _ (s : List ℕ) (t r : ℕ) where
   at_text room = let w = enough_room t r room in read_roomy s t r w.0 w.1
 
 -- a check that tells a fault tells its own, which is one
-told : (f g : Fault) → checked f ≡ Err g → (g ≡ f) × (g.number ≡ 0 → ⊥)
+pub told : (f g : Fault) → checked f ≡ Err g → (g ≡ f) × (g.number ≡ 0 → ⊥)
 told f g = go (eqb f.number 0) refl
   where
     go : (b : Bool) → eqb f.number 0 ≡ b → ◌≡◌ {A = Result (Unit {0}) Fault} (pick b (Ok tt) (Err f)) (Err g)
