@@ -1,5 +1,6 @@
 -- What is known of an accepted text where its second line starts, and what the converter answers, by where a fault is found: with the
 -- text, with the size of the converted one, nowhere.
+use Rattle.std.specs.Prelude.{Ok, Err}
 use mathlib.Core.Path.{◌≡◌, refl, sym, ap, ◌∙◌}
 use mathlib.Core.Bool.{Bool, true, false}
 use mathlib.Core.List.{List, [], ◌∷◌, ◌++◌, append_assoc}
@@ -9,12 +10,10 @@ use lib.Dec.{eqb, leb}
 use lib.ListN.{length, length-append, length-drop, take, drop}
 use lib.Seq.{take_all}
 use Rattle.rules.specs.declared.Fault.{Fault}
-use Rattle.rules.specs.declared.Written.{Written}
-use Rattle.rules.specs.declared.Written.TheVariants.{Refused, Text}
 use Rattle.rules.specs.Words.{pick}
 use Rattle.rules.specs.Limits.{max_text}
-use Rattle.rules.specs.Refusals.{unless, first, room_fault}
-use Rattle.rules.specs.Answers.{result, written_as}
+use Rattle.rules.specs.Refusals.{checked, unless, first, room_fault}
+use Rattle.rules.specs.Answers.{result}
 use Rattle.rules.specs.Policies.{edf, policy_name}
 use Rattle.rules.specs.Text.{newline_byte, up_to, line_of, after_line, field_of}
 use Rattle.rules.specs.Reader.{word_kind, length_fault, text_fault}
@@ -23,13 +22,14 @@ use Rattle.rules.specs.PolicyLine.{policy_given, with_policy}
 use Rattle.rules.specs.Convert.{converted, convert_fault, convert_answer, convert_bytes}
 use Rattle.rules.specs.Calls.{ConvertPromise}
 use Rattle.lists.specs.Lists.{take-first}
-use Rattle.legal.specs.Firsts.{next_none, stop}
+use Rattle.legal.specs.Firsts.{next_none, checked_stop}
 use Rattle.legal.specs.Settled.{refuses, leaves, settles, puts}
 use Rattle.texts.specs.LinesOf.{line_cut}
 use Rattle.conversion.specs.Conversion.{text_ended, line_long, converted_long}
 use Rattle.puts.specs.Laid.{Laid}
 use Rattle.puts.proofs.Puts.{laid_front}
 use Rattle.scan.proofs.Parts.{drop_past}
+use Rattle.reader.proofs.Answered.{told}
 
 -- ---- the line that is put in
 -- its bytes
@@ -74,7 +74,7 @@ module _ (s : List ℕ) (clear : (text_fault s).number ≡ 0) where
         ∙ take-first (e + 1) (u ++ (newline_byte ∷ [])) (after_line s) (omega (arith, found, length-append u (newline_byte ∷ [])))
 
     -- whether a policy line is there
-    pub given_there : eqb (word_kind (field_of (line_of (drop (e + 1) s)))) 2 ≡ policy_given s
+    given_there : eqb (word_kind (field_of (line_of (drop (e + 1) s)))) 2 ≡ policy_given s
     unfolding policy_given
     given_there = rw unread
 
@@ -89,29 +89,46 @@ module _ (s : List ℕ) (clear : (text_fault s).number ≡ 0) where
   pub put_long : (g : Bool) → g ≡ policy_given s → length s + pick g 0 (length (policy_text edf)) ≡ length (converted s)
   put_long g q = rw q (sym (converted_long s clear))
 
--- ---- f is what was found at fault
-module _ (s : List ℕ) (room : ℕ) (f : Fault) where
-  pub text_at_fault : f ≡ text_fault s → (f.number ≡ 0 → ⊥) → f ≡ convert_fault s room
-  unfolding convert_fault
-  text_at_fault e h = stop f (text_fault s) _ e h
+-- ---- what was found at fault
+-- with the size of a text
+abbrev size_fault : ℕ → ℕ → Fault
+size_fault n room = first (unless (leb n max_text) 1 0 ∷ room_fault n room ∷ [])
 
-  -- with the size, n being that of the converted text
-  pub size_tested : (n : ℕ) → n ≡ length (converted s) → (text_fault s).number ≡ 0
-      → f ≡ first (unless (leb n max_text) 1 0 ∷ room_fault n room ∷ []) → f ≡ convert_fault s room
-  unfolding convert_fault length_fault
-  size_tested n long clear e =
-      e ∙ ap (λ (k : ℕ). first (unless (leb k max_text) 1 0 ∷ room_fault k room ∷ [])) long ∙ sym (next_none (text_fault s) _ clear)
+module _ (s : List ℕ) (room : ℕ) where
+  pub text_at_fault : (f : Fault) → checked (text_fault s) ≡ Err f → checked (convert_fault s room) ≡ Err f
+  unfolding convert_fault
+  text_at_fault f e = checked_stop _ _ f e
+
+-- with a text that is accepted: whether its policy line is given, how long the converted text is, and what is at fault with that
+pub record Sized (s : List ℕ) (room : ℕ) (given : Bool) (more : ℕ) : Type 0 where
+  pub given_is : given ≡ policy_given s
+  pub long : length s + more ≡ length (converted s)
+  pub fault : convert_fault s room ≡ size_fault (length s + more) room
+
+pub sized : (s : List ℕ) (room : ℕ) → (text_fault s).number ≡ 0 → (e : ℕ) → e ≡ 0 + length (up_to newline_byte (drop 0 s))
+    → (given : Bool) (more : ℕ) → given ≡ eqb (word_kind (field_of (line_of (drop (e + 1) s)))) 2
+    → more ≡ pick given 0 (length (policy_text edf)) → Sized s room given more
+unfolding convert_fault length_fault
+sized s room clear e found given more p q =
+    let g = p ∙ given_there s clear e found in
+    let l = ap (λ (n : ℕ). length s + n) q ∙ put_long s clear given g in
+    record {
+      given_is = g;
+      long = l;
+      fault = next_none (text_fault s) _ clear ∙ ap (λ (k : ℕ). size_fault k room) (sym l);
+    }
 
 -- what is answered, and what the bytes are then
-pub refusing : (s room : List ℕ) (f : Fault) → f ≡ convert_fault s (length room) → (f.number ≡ 0 → ⊥)
-    → (r : Written) → r ≡ Refused f.number f.place → ConvertPromise s room r room
+pub refusing : (s room : List ℕ) (f : Fault) → checked (convert_fault s (length room)) ≡ Err f → ConvertPromise s room (Err f) room
 unfolding convert_answer convert_bytes
-refusing s room f e h r p = record { answer = ap written_as p ∙ refuses f _ e _ h; left = leaves f _ e _ _ h }
+refusing s room f e =
+    let w = told _ f e in
+    record { answer = refuses f _ w.0 _ w.1; left = leaves f _ w.0 _ _ w.1 }
 
 pub converting : (s room new : List ℕ) (n : ℕ) → (convert_fault s (length room)).number ≡ 0
     → length (converted s) ≤ length room
     → Laid 0 (converted s) room new n
-    → ConvertPromise s room (Text n) new
+    → ConvertPromise s room (Ok n) new
 unfolding convert_answer convert_bytes
 converting s room new n e h p =
     let l : n ≡ length (converted s) = omega (arith, p.behind) in

@@ -4,27 +4,26 @@
 ghost use Rattle.std.specs.Prelude.{◌≡◌, [], ◌∷◌, ◌++◌, ◌+◌, ◌≤◌, eqb, leb, length, take, drop};
 ghost use Rattle.rules.specs.Words.{pick};
 ghost use Rattle.rules.specs.Limits.{max_text};
-ghost use Rattle.rules.specs.Refusals.{unless, first, room_fault};
+ghost use Rattle.rules.specs.Refusals.{checked, unless, first, room_fault};
 ghost use Rattle.rules.specs.Policies.{edf};
 ghost use Rattle.rules.specs.Text.{line_of, field_of};
 ghost use Rattle.rules.specs.Reader.{word_kind, text_fault};
 ghost use Rattle.rules.specs.Writer.{policy_text};
 ghost use Rattle.rules.specs.Calls.{ConvertPromise};
-ghost use Rattle.rules.specs.declared.Written.TheVariants.{Refused};
 ghost use Rattle.puts.specs.Laid.{Laid};
 
 use lines::{TABLE_ROOM, TRACE_ROOM};
 use puts::put_bytes;
-use rules::{Fault, POLICY, Written};
+use rules::{Fault, POLICY};
 
 // What is at fault with a text, as the reader finds it.
-fn text_fault(text: &[u8]) -> Fault
-    ensures { result ≡ text_fault text.now }
+fn text_fault(text: &[u8]) -> Result<(), Fault>
+    ensures { result ≡ checked (text_fault text.now) }
 {
-    let mut table: [u32; TABLE_ROOM] = [0; TABLE_ROOM];
-    let mut trace: [u32; TRACE_ROOM] = [0; TRACE_ROOM];
-    let found = reader::read_case(text, &mut table, &mut trace);
-    found.fault
+    let mut table = [0; TABLE_ROOM];
+    let mut trace = [0; TRACE_ROOM];
+    reader::read_case(text, &mut table, &mut trace)?;
+    Ok(())
 }
 
 // Whether a policy line stands at `at`.
@@ -45,15 +44,15 @@ fn added(given: bool) -> usize
 }
 
 // What is at fault with the size of a text to which so many bytes are added: 1 before 13.
-fn size_fault(length: usize, more: usize, room: usize) -> Fault
+#[tactic(auto, using(legal::specs::Firsts::rows))]
+fn size_fault(length: usize, more: usize, room: usize) -> Result<(), Fault>
     requires length_le_max_text { length ≤ max_text }
     requires more_le_max_text { more ≤ max_text }
-    ensures { result ≡ first (unless (leb (length + more) max_text) 1 0 ∷ room_fault (length + more) room ∷ []) }
+    ensures { result ≡ checked (first (unless (leb (length + more) max_text) 1 0 ∷ room_fault (length + more) room ∷ [])) }
 {
     let need = length + more;
-    let too_long = reader::length_fault(need);
-    let no_room = faults::room_fault(need, room);
-    faults::first_of_two(too_long, no_room)
+    reader::length_fault(need)?;
+    faults::room_fault(need, room)
 }
 
 // Writes a text with the line put in behind its first `at` bytes. The newline is bare, whatever those of the text are.
@@ -76,37 +75,20 @@ fn put_converted(out: &mut [u8], text: &[u8], at: usize, given: bool) -> usize
         text.now))) out.old out.new result }
 {
     if given {
-        return put_bytes(out, 0, text);
-    }
-    put_between(out, text, at)
-}
-
-// A refusal as an answer.
-fn refused(f: Fault) -> Written
-    ensures { result ≡ Refused f.number f.place }
-{
-    Written::Refused {
-        number: f.number,
-        place: f.place,
+        put_bytes(out, 0, text)
+    } else {
+        put_between(out, text, at)
     }
 }
 
 // Writes the converted text to the start of `out`, if the reader accepts the text and the converted one is neither too long nor without
 // room.
-pub fn convert(text: &[u8], out: &mut [u8]) -> Written
+pub fn convert(text: &[u8], out: &mut [u8]) -> Result<usize, Fault>
     ensures { ConvertPromise text.now out.old result out.new }
 {
-    let wrong = text_fault(text);
-    if wrong.number != 0 {
-        return refused(wrong);
-    }
+    text_fault(text)?;
     let at = scan::line_end(text, 0) + 1;
     let given = policy_at(text, at);
-    let unfit = size_fault(text.len(), added(given), out.len());
-    if unfit.number != 0 {
-        return refused(unfit);
-    }
-    Written::Text {
-        length: put_converted(out, text, at, given),
-    }
+    size_fault(text.len(), added(given), out.len())?;
+    Ok(put_converted(out, text, at, given))
 }

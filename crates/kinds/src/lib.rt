@@ -6,7 +6,7 @@ ghost use Rattle.rules.specs.Reader.{one_number, two_numbers, three_numbers, pol
 ghost use Rattle.rules.specs.declared.Line.TheVariants.{Procs, Row, End, Release};
 ghost use Rattle.kinds.specs.Says.{Says, StartsRelease};
 
-use rules::{END, Line, Num, POLICY, PROCS, RELEASE, TASK};
+use rules::{END, Line, POLICY, PROCS, RELEASE, TASK};
 use scan::{after_field, field, number};
 use words::same_bytes;
 
@@ -18,6 +18,7 @@ pub struct Said {
 }
 
 // The kind of line that a word opens: 1 procs, 2 policy, 3 task, 4 end, 5 release; 0 where it opens none.
+#[tactic(auto, unfolding(rules::specs::Reader::word_kind))]
 pub fn word_kind(w: &[u8]) -> u32
     ensures { result ≡ word_kind w.now }
 {
@@ -40,39 +41,42 @@ pub fn word_kind(w: &[u8]) -> u32
 }
 
 // The fields of a `procs` line: one number.
+#[tactic(auto, unfolding(rules::specs::Reader::one_number))]
 pub fn procs_fields(s: &[u8]) -> Line
     ensures { result ≡ one_number s.now Procs }
 {
-    let Num::Value { value } = number(s) else {
+    let Some(procs) = number(s) else {
         return Line::Bad;
     };
-    Line::Procs { procs: value }
+    Line::Procs { procs }
 }
 
 // The field of a `policy` line: a policy's word.
+#[tactic(auto, unfolding(rules::specs::Reader::policy_in))]
 pub fn policy_fields(s: &[u8]) -> Line
     ensures { result ≡ policy_in s.now }
 {
-    let Num::Value { value } = policies::policy_of(s) else {
+    let Some(policy) = policies::policy_of(s) else {
         return Line::Bad;
     };
-    Line::Policy { policy: value }
+    Line::Policy { policy }
 }
 
 // The fields of a `task` line: T, C and D, each looked for in what follows the tab before it.
+#[tactic(auto, unfolding(rules::specs::Reader::three_numbers, rules::specs::Reader::two_numbers, rules::specs::Reader::one_number))]
 pub fn task_fields(s: &[u8]) -> Line
     ensures { result ≡ three_numbers s.now Row }
 {
     let first = field(s);
-    let Num::Value { value: period } = number(first) else {
+    let Some(period) = number(first) else {
         return Line::Bad;
     };
     let t = after_field(s, first.len());
     let second = field(t);
-    let Num::Value { value: execution } = number(second) else {
+    let Some(execution) = number(second) else {
         return Line::Bad;
     };
-    let Num::Value { value: deadline } = number(after_field(t, second.len())) else {
+    let Some(deadline) = number(after_field(t, second.len())) else {
         return Line::Bad;
     };
     Line::Row {
@@ -83,30 +87,33 @@ pub fn task_fields(s: &[u8]) -> Line
 }
 
 // The fields of an `end` line: one number.
+#[tactic(auto, unfolding(rules::specs::Reader::one_number))]
 pub fn end_fields(s: &[u8]) -> Line
     ensures { result ≡ one_number s.now End }
 {
-    let Num::Value { value } = number(s) else {
+    let Some(end) = number(s) else {
         return Line::Bad;
     };
-    Line::End { end: value }
+    Line::End { end }
 }
 
 // The fields of a `release` line: time and task.
+#[tactic(auto, unfolding(rules::specs::Reader::two_numbers, rules::specs::Reader::one_number))]
 pub fn release_fields(s: &[u8]) -> Line
     ensures { result ≡ two_numbers s.now Release }
 {
     let first = field(s);
-    let Num::Value { value: time } = number(first) else {
+    let Some(time) = number(first) else {
         return Line::Bad;
     };
-    let Num::Value { value: task } = number(after_field(s, first.len())) else {
+    let Some(task) = number(after_field(s, first.len())) else {
         return Line::Bad;
     };
     Line::Release { time, task }
 }
 
 // What the fields s of a line of that kind say.
+#[tactic(auto, unfolding(rules::specs::Reader::fields_say))]
 pub fn fields_say(kind: u32, s: &[u8]) -> Line
     ensures { result ≡ fields_say kind s.now }
 {
@@ -121,6 +128,7 @@ pub fn fields_say(kind: u32, s: &[u8]) -> Line
 }
 
 // What a line says: one of the words with just its fields.
+#[tactic(auto, using(crate::proofs::Opening::fields_open), unfolding(rules::specs::Reader::line_says))]
 pub fn line_says(s: &[u8]) -> Said
     ensures { Says s.now result }
 {
@@ -134,16 +142,13 @@ pub fn line_says(s: &[u8]) -> Said
 const RELEASE_FIELDS: usize = 8;
 
 // Whether a line starts with the word of a release and a tab. The tab is looked for where it has to stand, and not along the word.
+#[tactic(auto, using(crate::proofs::Opening::starts))]
 fn starts_release(s: &[u8]) -> bool
     ensures { result ≡ true → StartsRelease s.now }
 {
-    if s.len() < RELEASE_FIELDS {
-        return false;
-    }
-    if s[RELEASE_FIELDS - 1] != b'\t' {
-        return false;
-    }
-    same_bytes(&s[0..RELEASE_FIELDS - 1], b"release")
+    RELEASE_FIELDS <= s.len()
+        && s[RELEASE_FIELDS - 1] == b'\t'
+        && same_bytes(&s[0..RELEASE_FIELDS - 1], b"release")
 }
 
 // The same, for a line that is most likely a release, as nearly all lines of a text are: that word is looked for first.
@@ -161,21 +166,16 @@ pub fn release_says(s: &[u8]) -> Said
 }
 
 // Whether a line of that kind may follow one of kind `before`, which is 0 before the first line.
+#[tactic(auto, unfolding(rules::specs::Reader::may_follow))]
 pub fn may_follow(before: u32, kind: u32) -> bool
     ensures { result ≡ may_follow before kind }
 {
     match kind {
         PROCS => before == 0,
         POLICY => before == PROCS,
-        TASK => match before {
-            PROCS | POLICY | TASK => true,
-            _ => false,
-        },
+        TASK => matches!(before, PROCS | POLICY | TASK),
         END => before == TASK,
-        RELEASE => match before {
-            END | RELEASE => true,
-            _ => false,
-        },
+        RELEASE => matches!(before, END | RELEASE),
         _ => false,
     }
 }

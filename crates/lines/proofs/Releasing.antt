@@ -1,5 +1,6 @@
 -- The release lines: between two of them, what is at fault with them all is what is at fault with those unread, and their trace is what is
 -- kept with the trace of those unread. And what they add to a case is their trace.
+use Rattle.std.specs.Prelude.{Err}
 use mathlib.Core.Path.{◌≡◌, refl, sym, ap, ◌∙◌}
 use mathlib.Core.List.{List, [], ◌∷◌, ◌++◌, append_assoc, append-nil}
 use Prim.Native.Nat.{ℕ, suc, ◌+◌, ◌≤◌, ◌<◌}
@@ -10,17 +11,16 @@ use borrow.Author.Tests.{eqb-true}
 use Rattle.rules.specs.Limits.{release_width}
 use Rattle.rules.specs.Case.{Case, case_of}
 use Rattle.rules.specs.Text.{after_line}
-use Rattle.rules.specs.Refusals.{no_fault}
+use Rattle.rules.specs.Refusals.{checked}
 use Rattle.rules.specs.Reader.{kind_of, lines_of, may_follow, may_stop, case_order, lines_fault, with_line, with_lines}
 use Rattle.rules.specs.declared.Fault.{Fault}
 use Rattle.rules.specs.declared.Line.{Line}
 use Rattle.rules.specs.declared.Line.TheVariants.{Bad, Procs, Policy, Row, End, Release}
-use Rattle.legal.specs.Settled.{clear}
 use Rattle.texts.specs.LinesOf.{end_release}
 use Rattle.texts.specs.Passing.{lines_clear}
 use Rattle.lines.specs.declared.ReleaseStep.{ReleaseStep}
 use Rattle.lines.specs.Held.{trace_room, line_fault, next_says, release_numbers, trace_of, Whole}
-use Rattle.lines.specs.Gathers.{ReleaseLine, Releases}
+use Rattle.lines.specs.Gathers.{release_fault, ReleaseRead, ReleasesRead}
 use Rattle.lines.proofs.Faults.{line_follows, fault_stop}
 use Rattle.lines.proofs.Keeps.{take_clipped}
 use Rattle.lines.proofs.Reading.{unread_lines, unread_none, fault_next, fault_after}
@@ -44,47 +44,49 @@ unfolding may_follow
 released l n e = eqb-true (kind_of l) 5 (line_follows case_order 4 (kind_of l) n l (λ _. refl) e).1
 
 module _ (s : List ℕ) (at₀ n₀ at n r : ℕ) (trace : List ℕ) (w : Releasing s at₀ n₀ at n r trace) where
-  -- the next line
-  module _ (step : ReleaseStep) (trace' : List ℕ) (l : at < length s) (x : ReleaseLine s at n r trace step trace') where
-    -- is at fault
-    pub releasing_stop : (step.fault.number ≡ 0 → ⊥) → step.fault ≡ lines_fault case_order 4 n₀ (lines_of (drop at₀ s))
-    releasing_stop q = fault_next case_order s 4 n at step.fault l x.fault q ∙ sym w.fault
+  -- the next line is at fault
+  pub releasing_stop : (f : Fault) → at < length s → checked (release_fault s at n) ≡ Err f
+      → checked (lines_fault case_order 4 n₀ (lines_of (drop at₀ s))) ≡ Err f
+  releasing_stop f l e = ap checked w.fault ∙ fault_next case_order s 4 n at f l e
 
-    -- is read
-    pub releasing_on : step.fault.number ≡ 0 → Releasing s at₀ n₀ step.next (n + 1) step.releases trace'
-    unfolding trace_of
-    releasing_on q =
-        let said = next_says (drop at s) in
-        let new = release_numbers said in
-        let rest = trace_of (lines_of (after_line (drop at s))) in
-        let unread = lines_of (drop step.next s) in
-        record {
-          within = x.within;
-          counted = omega (arith, w.counted, x.on);
-          fault =
-              w.fault ∙ fault_after case_order s 4 n at step.next step.fault l x.fault q x.unread ∙
-              ap (λ (k : ℕ). lines_fault case_order k (n + 1) unread) (released said n (clear _ _ x.fault q)) ∙
-              sym (end_release (n + 1) unread);
-          kept =
-              w.kept ∙ ap (λ (ls : List Line). take trace_room (take r trace ++ trace_of ls)) (unread_lines s at l) ∙
-              ap (take trace_room) (sym (append_assoc (take r trace) new rest))
-              ∙ sym (take_clipped trace_room (take r trace ++ new) rest) ∙
-              ap (λ (z : List ℕ). take trace_room (z ++ rest)) (sym x.kept.kept) ∙
-              ap (λ (u : List ℕ). take trace_room (take step.releases trace' ++ trace_of (lines_of u))) (sym x.unread);
-          releases = x.kept.whole;
-        }
+  -- or it is read
+  pub releasing_on : (step : ReleaseStep) (trace' : List ℕ) → at < length s → ReleaseRead s at n r trace step trace'
+      → Releasing s at₀ n₀ step.next (n + 1) step.releases trace'
+  unfolding trace_of
+  releasing_on step trace' l x =
+      let said = next_says (drop at s) in
+      let new = release_numbers said in
+      let rest = trace_of (lines_of (after_line (drop at s))) in
+      let unread = lines_of (drop step.next s) in
+      record {
+        within = x.within;
+        counted = omega (arith, w.counted, x.on);
+        fault =
+            w.fault ∙ fault_after case_order s 4 n at step.next l x.clear x.unread ∙
+            ap (λ (k : ℕ). lines_fault case_order k (n + 1) unread) (released said n x.clear) ∙
+            sym (end_release (n + 1) unread);
+        kept =
+            w.kept ∙ ap (λ (ls : List Line). take trace_room (take r trace ++ trace_of ls)) (unread_lines s at l) ∙
+            ap (take trace_room) (sym (append_assoc (take r trace) new rest))
+            ∙ sym (take_clipped trace_room (take r trace ++ new) rest) ∙
+            ap (λ (z : List ℕ). take trace_room (z ++ rest)) (sym x.kept.kept) ∙
+            ap (λ (u : List ℕ). take trace_room (take step.releases trace' ++ trace_of (lines_of u))) (sym x.unread);
+        releases = x.kept.whole;
+      }
 
   -- no line is left
-  pub releasing_all : (f : Fault) → length s ≤ at → f ≡ no_fault → Releases s at₀ n₀ (record { fault = f; releases = r }) trace
+  pub releasing_all : length s ≤ at → ReleasesRead s at₀ n₀ r trace
   unfolding trace_of may_stop
-  releasing_all f l p =
+  releasing_all l =
       record {
-        fault = p ∙ sym (w.fault ∙ ap (lines_fault case_order 4 n) (unread_none s at l) ∙ fault_stop case_order 4 n);
-        kept = λ _.
+        clear =
+            ap (λ (f : Fault). f.number)
+            (w.fault ∙ ap (lines_fault case_order 4 n) (unread_none s at l) ∙ fault_stop case_order 4 n);
+        kept =
             w.kept ∙ ap (λ (ls : List Line). take trace_room (take r trace ++ trace_of ls)) (unread_none s at l) ∙
             ap (take trace_room) (append-nil (take r trace)) ∙
             take_all trace_room (take r trace) (omega (arith, length-take r trace, w.releases.within));
-        releases = w.releases;
+        whole = w.releases;
       }
 
 -- ---- what release lines add to a case

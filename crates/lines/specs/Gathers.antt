@@ -1,18 +1,25 @@
 -- What the functions that read lines promise: the next line, the lines of the head, one release line, the release lines, and the lines of
--- a whole text (rules, Reader, `lines_fault` and `case_in`). Reading may stop after any line, for what is unread decides the rest.
-use Rattle.std.specs.Prelude.{ℕ, ◌+◌, ◌≤◌, ◌<◌, ◌≡◌, List, [], length, take, drop}
+-- a whole text (rules, Reader, `lines_fault` and `case_in`). Reading may stop after any line, for what is unread decides the rest. An `Err`
+-- tells what is at fault, and never a fault of number 0; what is read is said of an `Ok`; a lent room keeps its length in both.
+use Rattle.std.specs.Prelude.{ℕ, ◌+◌, ◌≤◌, ◌<◌, ◌≡◌, List, [], length, take, drop, Result, Ok, Err}
 use Rattle.rules.specs.Limits.{task_width, release_width}
 use Rattle.rules.specs.Case.{Case}
+use Rattle.rules.specs.Refusals.{checked}
 use Rattle.rules.specs.Text.{after_line}
 use Rattle.rules.specs.Reader.{kind_of, lines_of, Order, case_order, lines_fault, policy_when_absent, with_lines, case_with_default}
 use Rattle.rules.specs.Reader.{case_in}
+use Rattle.rules.specs.declared.Fault.{Fault}
 use Rattle.kinds.specs.Says.{Opens}
 use Rattle.lines.specs.declared.Step.{Step}
 use Rattle.lines.specs.declared.HeadRead.{HeadRead}
 use Rattle.lines.specs.declared.ReleaseStep.{ReleaseStep}
-use Rattle.lines.specs.declared.ReleasesRead.{ReleasesRead}
 use Rattle.lines.specs.declared.Gathered.{Gathered}
 use Rattle.lines.specs.Held.{table_room, trace_room, clip, line_fault, next_says, release_numbers, trace_of, Whole, Added, kept_case}
+
+-- an answer where f is what is at fault: `Err` with just that fault, which is none of number 0, or `Ok` with a value of which P holds
+abbrev pub Told : {A : Type 0} → Fault → (A → Type 0) → Result A Fault → Type 0
+Told f P (Ok x) = P x
+Told f P (Err g) = checked f ≡ Err g
 
 -- the line at `at`, the kind of its word, and where the next line starts
 pub record NextLine (s : List ℕ) (at : ℕ) (r : Step) : Type 0 where
@@ -38,35 +45,52 @@ pub record InHead (s : List ℕ) (top : HeadRead) (table : List ℕ) : Type 0 wh
   pub early : top.before ≤ 4
 
 -- one more line of it, which starts at `at`
-pub record HeadLine (s : List ℕ) (at : ℕ) (r : HeadRead) (table : List ℕ) : Type 0 where
-  pub fault : (r.fault.number ≡ 0 → ⊥) → r.fault ≡ lines_fault case_order 0 1 (lines_of s)
-  pub read : r.fault.number ≡ 0 → InHead s r table × (at < r.next)
-  pub tasks : Whole table_room task_width r.tasks table
+pub record HeadLine (s : List ℕ) (at : ℕ) (r : Result HeadRead Fault) (table : List ℕ) : Type 0 where
+  pub told : Told (lines_fault case_order 0 1 (lines_of s)) (λ top. InHead s top table × (at < top.next)) r
+  pub long : length table ≡ table_room
 
 -- all of its lines, through `end`
-pub record Heads (s : List ℕ) (r : HeadRead) (table : List ℕ) : Type 0 where
-  pub fault : (r.fault.number ≡ 0 → ⊥) → r.fault ≡ lines_fault case_order 0 1 (lines_of s)
-  pub read : r.fault.number ≡ 0 → InHead s r table × (r.before ≡ 4)
-  pub tasks : Whole table_room task_width r.tasks table
+pub record Heads (s : List ℕ) (r : Result HeadRead Fault) (table : List ℕ) : Type 0 where
+  pub told : Told (lines_fault case_order 0 1 (lines_of s)) (λ top. InHead s top table × (top.before ≡ 4)) r
+  pub long : length table ≡ table_room
 
 -- ---- the release lines
--- line n, which starts at `at`: what is at fault with it after `end` or a release, and its numbers behind those that are kept
-pub record ReleaseLine (s : List ℕ) (at n releases : ℕ) (old : List ℕ) (r : ReleaseStep) (trace : List ℕ) : Type 0 where
-  pub fault : r.fault ≡ line_fault case_order 4 (kind_of (next_says (drop at s))) n
-  pub kept : Added trace_room release_width releases (release_numbers (next_says (drop at s))) old r.releases trace
-  pub unread : drop r.next s ≡ after_line (drop at s)
-  pub on : at < r.next
-  pub within : r.next ≤ length s
+-- what is at fault with line n, which starts at `at`, after `end` or a release
+abbrev pub release_fault : List ℕ → ℕ → ℕ → Fault
+release_fault s at n = line_fault case_order 4 (kind_of (next_says (drop at s))) n
 
--- all lines from line n on, which starts at `at`: what is at fault with them, and the trace that they say as far as it matters
-pub record Releases (s : List ℕ) (at n : ℕ) (r : ReleasesRead) (trace : List ℕ) : Type 0 where
-  pub fault : r.fault ≡ lines_fault case_order 4 n (lines_of (drop at s))
-  pub kept : r.fault.number ≡ 0 → take trace_room (trace_of (lines_of (drop at s))) ≡ take r.releases trace
-  pub releases : Whole trace_room release_width r.releases trace
+-- that line, with nothing at fault: its numbers stand behind those that are kept
+pub record ReleaseRead (s : List ℕ) (at n releases : ℕ) (old : List ℕ) (step : ReleaseStep) (trace : List ℕ) : Type 0 where
+  pub clear : (release_fault s at n).number ≡ 0
+  pub kept : Added trace_room release_width releases (release_numbers (next_says (drop at s))) old step.releases trace
+  pub unread : drop step.next s ≡ after_line (drop at s)
+  pub on : at < step.next
+  pub within : step.next ≤ length s
+
+pub record ReleaseLine (s : List ℕ) (at n releases : ℕ) (old : List ℕ) (r : Result ReleaseStep Fault) (trace : List ℕ) : Type 0 where
+  pub told : Told (release_fault s at n) (λ step. ReleaseRead s at n releases old step trace) r
+  pub long : length trace ≡ trace_room
+
+-- all lines from line n on, which starts at `at`, with nothing at fault: so many release numbers were kept, and the trace that the lines
+-- say is those, as far as it matters
+pub record ReleasesRead (s : List ℕ) (at n releases : ℕ) (trace : List ℕ) : Type 0 where
+  pub clear : (lines_fault case_order 4 n (lines_of (drop at s))).number ≡ 0
+  pub kept : take trace_room (trace_of (lines_of (drop at s))) ≡ take releases trace
+  pub whole : Whole trace_room release_width releases trace
+
+pub record Releases (s : List ℕ) (at n : ℕ) (r : Result ℕ Fault) (trace : List ℕ) : Type 0 where
+  pub told : Told (lines_fault case_order 4 n (lines_of (drop at s))) (λ releases. ReleasesRead s at n releases trace) r
+  pub long : length trace ≡ trace_room
 
 -- ---- the lines of a text
-pub record Gathers (s : List ℕ) (g : Gathered) (table trace : List ℕ) : Type 0 where
-  pub fault : g.fault ≡ lines_fault case_order 0 1 (lines_of s)
-  pub kept : g.fault.number ≡ 0 → clip (case_in s) ≡ kept_case g.head g.tasks table g.releases trace
+-- with nothing at fault with them
+pub record AllRead (s : List ℕ) (g : Gathered) (table trace : List ℕ) : Type 0 where
+  pub clear : (lines_fault case_order 0 1 (lines_of s)).number ≡ 0
+  pub kept : clip (case_in s) ≡ kept_case g.head g.tasks table g.releases trace
   pub tasks : Whole table_room task_width g.tasks table
   pub releases : Whole trace_room release_width g.releases trace
+
+pub record Gathers (s : List ℕ) (r : Result Gathered Fault) (table trace : List ℕ) : Type 0 where
+  pub told : Told (lines_fault case_order 0 1 (lines_of s)) (λ g. AllRead s g table trace) r
+  pub table_long : length table ≡ table_room
+  pub trace_long : length trace ≡ trace_room

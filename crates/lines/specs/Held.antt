@@ -4,7 +4,7 @@ use Rattle.std.specs.Prelude.{ℕ, ◌+◌, ◌*◌, ◌%◌, ◌≤◌, ◌≡�
 use Rattle.rules.specs.Words.{pick}
 use Rattle.rules.specs.Limits.{max_tasks, max_releases, task_width, release_width}
 use Rattle.rules.specs.Case.{Case, case_of}
-use Rattle.rules.specs.Refusals.{no_fault, unless, first}
+use Rattle.rules.specs.Refusals.{unless, first}
 use Rattle.rules.specs.Text.{newline_byte, has, line_of}
 use Rattle.rules.specs.Reader.{line_says, Order, policy_when_absent}
 use Rattle.rules.specs.declared.Fault.{Fault}
@@ -41,7 +41,7 @@ no_head = head_of 0 policy_when_absent 0
 
 -- no line read: line 1 is the next, at the start of the text
 abbrev pub no_lines : HeadRead
-no_lines = record { fault = no_fault; head = no_head; tasks = 0; before = 0; line = 1; next = 0 }
+no_lines = record { head = no_head; tasks = 0; before = 0; line = 1; next = 0 }
 
 -- the head with what one more line says
 abbrev pub head_with : Head → Line → Head

@@ -4,12 +4,14 @@
 
 ghost use Rattle.std.specs.Prelude.{◌≡◌, ◌+◌, ◌≤◌, ◌<◌, length};
 ghost use Rattle.rules.specs.Limits.{max_text, task_width, release_width};
+ghost use Rattle.rules.specs.Refusals.{checked};
 ghost use Rattle.rules.specs.Reader.{kind_of, case_order};
 ghost use Rattle.kinds.specs.Says.{Opens};
 ghost use Rattle.lines.specs.Held.{table_room, trace_room, line_fault, no_head, no_lines, head_with, row_numbers, release_numbers, Whole};
 ghost use Rattle.lines.specs.Held.{Added};
 ghost use Rattle.lines.specs.Gathers.{NextLine, InHead, HeadLine, Heads, ReleaseLine, Releases, Gathers};
 
+use faults::refuse_unless;
 use rules::{END, Fault, Line, MAX_RELEASES, MAX_TASKS, RELEASE_WIDTH, TASK_WIDTH};
 
 // Room for one task and one release more than a case may have.
@@ -33,26 +35,17 @@ pub struct Step {
     pub next: usize,
 }
 
-// A release line: what is at fault with it, how many release numbers are kept after it, and where the next line starts.
+// A release line: how many release numbers are kept after it, and where the next line starts.
 #[derive(Clone, Copy)]
 pub struct ReleaseStep {
-    pub fault: Fault,
     pub releases: usize,
     pub next: usize,
 }
 
-// The release lines: what is at fault with them, and how many release numbers were kept.
-#[derive(Clone, Copy)]
-pub struct ReleasesRead {
-    pub fault: Fault,
-    pub releases: usize,
-}
-
-// The lines read so far, at most through `end`: what is at fault with them, their head, how many task numbers were kept, the kind of the
-// last one, and the number and the start of the next.
+// The lines read so far, at most through `end`: their head, how many task numbers were kept, the kind of the last one, and the number and
+// the start of the next.
 #[derive(Clone, Copy)]
 pub struct HeadRead {
-    pub fault: Fault,
     pub head: Head,
     pub tasks: usize,
     pub before: u32,
@@ -60,10 +53,9 @@ pub struct HeadRead {
     pub next: usize,
 }
 
-// What the lines of a text come to: what is at fault, their head, and how many task and release numbers were kept.
+// What the lines of a text come to: their head, and how many task and release numbers were kept.
 #[derive(Clone, Copy)]
 pub struct Gathered {
-    pub fault: Fault,
     pub head: Head,
     pub tasks: usize,
     pub releases: usize,
@@ -116,17 +108,13 @@ pub fn next_release(text: &[u8], at: usize) -> Step
 }
 
 // What is at fault with line n, whose word opens that kind, after a line of kind `before`: 2 before 3.
-pub fn line_fault(before: u32, kind: u32, said: Line, n: u32) -> Fault
+#[tactic(auto, using(legal::specs::Firsts::refused, legal::specs::Firsts::rows), unfolding(crate::specs::Held::line_fault))]
+pub fn line_fault(before: u32, kind: u32, said: Line, n: u32) -> Result<(), Fault>
     requires { Opens kind said }
-    ensures { result ≡ line_fault case_order before (kind_of said) n }
+    ensures { result ≡ checked (line_fault case_order before (kind_of said) n) }
 {
-    if let Line::Bad = said {
-        return faults::fault(2, n);
-    }
-    if kinds::may_follow(before, kind) {
-        return faults::fault(0, 0);
-    }
-    faults::fault(3, n)
+    refuse_unless(!matches!(said, Line::Bad), 2, n)?;
+    refuse_unless(kinds::may_follow(before, kind), 3, n)
 }
 
 // The head before the first line; without a policy line the policy is EDF.
@@ -144,11 +132,8 @@ pub fn no_head() -> Head
 fn no_lines() -> HeadRead
     ensures { result ≡ no_lines }
 {
-    let fault = faults::fault(0, 0);
-    let head = no_head();
     HeadRead {
-        fault,
-        head,
+        head: no_head(),
         tasks: 0,
         before: 0,
         line: 1,
@@ -161,28 +146,10 @@ fn head_with(h: Head, l: Line) -> Head
     ensures { result ≡ head_with h l }
 {
     match l {
-        Line::Procs { procs } => Head {
-            procs,
-            policy: h.policy,
-            end: h.end,
-        },
-        Line::Policy { policy } => Head {
-            procs: h.procs,
-            policy,
-            end: h.end,
-        },
-        Line::End { end } => Head {
-            procs: h.procs,
-            policy: h.policy,
-            end,
-        },
-        Line::Bad => h,
-        Line::Row {
-            period: _,
-            execution: _,
-            deadline: _,
-        } => h,
-        Line::Release { time: _, task: _ } => h,
+        Line::Procs { procs } => Head { procs, ..h },
+        Line::Policy { policy } => Head { policy, ..h },
+        Line::End { end } => Head { end, ..h },
+        Line::Bad | Line::Row { .. } | Line::Release { .. } => h,
     }
 }
 
@@ -225,55 +192,35 @@ fn keep_release(trace: &mut [u32], n: usize, l: Line) -> usize
 }
 
 // Reads one more line of the head after those that were read, or finds it missing where the text stops.
-fn head_line(text: &[u8], top: HeadRead, table: &mut [u32]) -> HeadRead
+fn head_line(text: &[u8], top: HeadRead, table: &mut [u32]) -> Result<HeadRead, Fault>
     requires text_len_bound { length text.now ≤ max_text }
     requires in_head { InHead text.now top table.old }
     requires before_bound { top.before < 4 }
     ensures { HeadLine text.now top.next result table.new }
 {
-    let at = top.next;
-    let line = top.line;
-    if at == text.len() {
-        let missing = faults::fault(3, line);
-        return HeadRead {
-            fault: missing,
-            ..top
-        };
-    }
-    let step = next_line(text, at);
-    let said = step.said;
-    let fault = line_fault(top.before, step.kind, said, line);
-    if fault.number != 0 {
-        return HeadRead { fault, ..top };
-    }
-    let head = head_with(top.head, said);
-    let tasks = keep_row(table, top.tasks, said);
-    let following = line + 1;
-    HeadRead {
-        fault,
-        head,
-        tasks,
+    refuse_unless(top.next < text.len(), 3, top.line)?;
+    let step = next_line(text, top.next);
+    line_fault(top.before, step.kind, step.said, top.line)?;
+    Ok(HeadRead {
+        head: head_with(top.head, step.said),
+        tasks: keep_row(table, top.tasks, step.said),
         before: step.kind,
-        line: following,
+        line: top.line + 1,
         next: step.next,
-    }
+    })
 }
 
 // Reads the lines through `end`: the smallest one at fault, or the head and the tasks that they say.
-pub fn read_head(text: &[u8], table: &mut [u32]) -> HeadRead
+pub fn read_head(text: &[u8], table: &mut [u32]) -> Result<HeadRead, Fault>
     requires text_len_bound { length text.now ≤ max_text }
     requires table_len { length table.old ≡ table_room }
     ensures { Heads text.now result table.new }
 {
     let mut top = no_lines();
     while top.before != END {
-        top = head_line(text, top, table);
-        let stop = top.fault;
-        if stop.number != 0 {
-            return top;
-        }
+        top = head_line(text, top, table)?;
     }
-    top
+    Ok(top)
 }
 
 // Reads line n, which starts at `at`, as a release line, and puts its numbers behind those that are kept.
@@ -283,24 +230,22 @@ pub fn release_line(
     n: u32,
     trace: &mut [u32],
     releases: usize,
-) -> ReleaseStep
+) -> Result<ReleaseStep, Fault>
     requires at_in_bounds { at < length text.now }
     requires whole { Whole trace_room release_width releases trace.old }
     ensures { ReleaseLine text.now at n releases trace.old result trace.new }
 {
     let step = next_release(text, at);
-    let said = step.said;
-    let fault = line_fault(END, step.kind, said, n);
-    let kept = keep_release(trace, releases, said);
-    ReleaseStep {
-        fault,
-        releases: kept,
+    line_fault(END, step.kind, step.said, n)?;
+    Ok(ReleaseStep {
+        releases: keep_release(trace, releases, step.said),
         next: step.next,
-    }
+    })
 }
 
-// Reads the release lines, of which the first is line n and starts at `at`: the smallest one at fault, or the releases that they say.
-pub fn read_releases(text: &[u8], at: usize, n: u32, trace: &mut [u32]) -> ReleasesRead
+// Reads the release lines, of which the first is line n and starts at `at`: the smallest one at fault, or how many release numbers were
+// kept.
+pub fn read_releases(text: &[u8], at: usize, n: u32, trace: &mut [u32]) -> Result<usize, Fault>
     requires text_len_bound { length text.now ≤ max_text }
     requires at_in_bounds { at ≤ length text.now }
     requires n_bound { n ≤ at + 1 }
@@ -311,47 +256,26 @@ pub fn read_releases(text: &[u8], at: usize, n: u32, trace: &mut [u32]) -> Relea
     let mut line = n;
     let mut next = at;
     while next < text.len() {
-        let step = release_line(text, next, line, trace, releases);
-        let first = step.fault;
-        if first.number != 0 {
-            return ReleasesRead {
-                fault: first,
-                releases,
-            };
-        }
+        let step = release_line(text, next, line, trace, releases)?;
         releases = step.releases;
         line += 1;
         next = step.next;
     }
-    let fault = faults::fault(0, 0);
-    ReleasesRead { fault, releases }
+    Ok(releases)
 }
 
 // Reads the lines of a text: the smallest line at fault, or the case that they say, as far as it matters.
-pub fn gather(text: &[u8], table: &mut [u32], trace: &mut [u32]) -> Gathered
+pub fn gather(text: &[u8], table: &mut [u32], trace: &mut [u32]) -> Result<Gathered, Fault>
     requires text_len_bound { length text.now ≤ max_text }
     requires table_len { length table.old ≡ table_room }
     requires trace_len { length trace.old ≡ trace_room }
     ensures { Gathers text.now result table.new trace.new }
 {
-    let top = read_head(text, table);
-    let head = top.head;
-    let tasks = top.tasks;
-    let fault = top.fault;
-    if fault.number != 0 {
-        return Gathered {
-            fault,
-            head,
-            tasks,
-            releases: 0,
-        };
-    }
-    let rest = read_releases(text, top.next, top.line, trace);
-    let fault = rest.fault;
-    Gathered {
-        fault,
-        head,
-        tasks,
-        releases: rest.releases,
-    }
+    let top = read_head(text, table)?;
+    let releases = read_releases(text, top.next, top.line, trace)?;
+    Ok(Gathered {
+        head: top.head,
+        tasks: top.tasks,
+        releases,
+    })
 }

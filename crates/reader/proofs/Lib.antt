@@ -1,4 +1,3 @@
 pub mod Clipped
 pub mod Answered
-pub mod Copies
 pub mod Kept

@@ -4,8 +4,6 @@
 ghost use Rattle.std.specs.Prelude.{◌≡◌, ◌&&◌, ◌+◌, ◌-◌, ◌≤◌, eqb, ltb, length, get_or, drop};
 ghost use Rattle.rules.specs.Text.{newline_byte, return_byte, up_to, line_of, field_of, after_field, number_in};
 
-use rules::Num;
-
 // The index of the first b of s from `from` on, or s's length where there is none. Two bytes a turn: such searches are most of what the
 // reader does.
 pub fn seek(s: &[u8], from: usize, b: u8) -> usize
@@ -22,10 +20,8 @@ pub fn seek(s: &[u8], from: usize, b: u8) -> usize
         }
         i += 2;
     }
-    if i < s.len() {
-        if s[i] != b {
-            return i + 1;
-        }
+    if i < s.len() && s[i] != b {
+        return i + 1;
     }
     i
 }
@@ -42,13 +38,7 @@ pub fn line_end(s: &[u8], from: usize) -> usize
 fn is_returned(s: &[u8], from: usize, end: usize) -> bool
     ensures { result ≡ (ltb end (length s.now) && ltb from end && eqb (get_or s.now (end - 1) 0) return_byte) }
 {
-    if s.len() <= end {
-        return false;
-    }
-    if end <= from {
-        return false;
-    }
-    s[end - 1] == b'\r'
+    end < s.len() && from < end && s[end - 1] == b'\r'
 }
 
 // The line that starts at the first unread byte and ends at `end`, a part of the caller's text, up to one return right before its newline.
@@ -79,41 +69,23 @@ pub fn after_field(s: &[u8], e: usize) -> &[u8]
     if e < s.len() { &s[e + 1..] } else { &s[e..] }
 }
 
-// A byte as a wider number.
-fn wide(x: u8) -> u32
-    ensures { result ≡ x }
-{
-    x as u32
-}
-
 // The number that the whole of s is: 1 to 9 digits with no leading zero, or 0 itself.
-pub fn number(s: &[u8]) -> Num
+pub fn number(s: &[u8]) -> Option<u32>
     ensures { result ≡ number_in s.now }
 {
     let n = s.len();
-    if n == 0 {
-        return Num::Bad;
+    if n == 0 || 9 < n {
+        return None;
     }
-    if 9 < n {
-        return Num::Bad;
-    }
-    if 1 < n {
-        if s[0] == b'0' {
-            return Num::Bad;
-        }
+    if 1 < n && s[0] == b'0' {
+        return None;
     }
     let mut v: u32 = 0;
-    let mut i: usize = 0;
-    while i < n {
-        let b = s[i];
-        if b < b'0' {
-            return Num::Bad;
+    for &b in s {
+        if b < b'0' || b'9' < b {
+            return None;
         }
-        if b'9' < b {
-            return Num::Bad;
-        }
-        v = v * 10 + wide(b - b'0');
-        i += 1;
+        v = v * 10 + u32::from(b - b'0');
     }
-    Num::Value { value: v }
+    Some(v)
 }

@@ -1,25 +1,24 @@
 -- `lines::read_releases` meets its contract.
+use Rattle.std.proofs.lemmas.Result.{err_from_is_err_and}
 use Rattle.lines.proofs.Releasing.{releasing_stop, releasing_on, releasing_all}
 use Rattle.lines.proofs.read_releases.Goals as goal
 
-pub returns-then-first-ne0 : goal.returns-then-first-ne0
-returns-then-first-ne0 c =
+pub returns-in_err-step : goal.returns-in_err-step
+returns-in_err-step c =
+    let p = err_from_is_err_and c.from_residual.result c.from_residual.ensures.1 in
+    let stopped = rw c.in_err-step.was at c.release_line.ensures.told in
+    rw (p.1, p.2)
     record {
-      fault = releasing_stop _ _ _ _ _ _ _ c.loop-next.invariant _ _ c.loop-next-test.true
-          c.release_line-step.ensures c.if-first-ne0.true;
-      kept = λ z. absurd (c.if-first-ne0.true z);
-      releases =
-          record {
-            long = c.release_line-step.ensures.kept.whole.long;
-            within = c.loop-next.invariant.releases.within;
-            even = c.loop-next.invariant.releases.even;
-          };
+      told = releasing_stop _ _ _ _ _ _ _ c.loop-next.invariant _ c.loop-next-test.true stopped;
+      long = c.release_line.ensures.long;
     }
 
 pub loop-next-preserved : goal.loop-next-preserved
 loop-next-preserved c =
-    releasing_on _ _ _ _ _ _ _ c.loop-next.invariant _ _ c.loop-next-test.true c.release_line-step.ensures
-    c.if-first-ne0.false
+    let read = rw c.in_ok-step.was at c.release_line.ensures.told in
+    releasing_on _ _ _ _ _ _ _ c.loop-next.invariant _ _ c.loop-next-test.true read
 
 pub returns : goal.returns
-returns c = releasing_all _ _ _ _ _ _ _ c.loop-next.invariant _ c.loop-next-test.false c.fault-fault.ensures
+returns c =
+    let w = c.loop-next.invariant in
+    record { told = releasing_all _ _ _ _ _ _ _ w c.loop-next-test.false; long = w.releases.long }

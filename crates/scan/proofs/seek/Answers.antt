@@ -6,6 +6,7 @@ use lib.ListN.{length, drop}
 use Rattle.rules.specs.Text.{up_to}
 use Rattle.scan.proofs.Parts.{here, not_here, nothing_left}
 use Rattle.scan.proofs.seek.Goals as goal
+use Rattle.scan.proofs.seek.Goals.{else-i-s-via-then-i-s+else-s-i-3, else-i-s-via-else-i-s}
 
 pub returns-then-s-i : goal.returns-then-s-i
 returns-then-s-i c =
@@ -44,16 +45,12 @@ returns-then-s-i-3 c =
     let i = c.loop-i.i in
     omega (arith, not_here s i b (omega arith) c.if-s-i-3.true, nothing_left s (i + 1) b (omega arith))
 
-pub returns-else-s-i-3 : goal.returns-else-s-i-3
-returns-else-s-i-3 c =
+pub returns : goal.returns
+returns c =
     let s = c.args.s.now in
     let b = c.args.b in
     let i = c.loop-i.i in
-    omega (arith, here s i b (omega arith) c.if-s-i-3.false)
-
-pub returns-else-i-s : goal.returns-else-i-s
-returns-else-i-s c =
-    let s = c.args.s.now in
-    let b = c.args.b in
-    let i = c.loop-i.i in
-    omega (arith, nothing_left s i b (omega arith))
+    elim c.else-i-s.branch [
+      | else-i-s-via-then-i-s+else-s-i-3 w ↦ omega (arith, here s i b (omega arith) w.if-s-i-3.false)
+      | else-i-s-via-else-i-s w ↦ omega (arith, nothing_left s i b (omega arith))
+    ]
