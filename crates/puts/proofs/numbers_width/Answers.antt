@@ -11,14 +11,10 @@ unfolding fields_text
 loop-v-init c = refl
 
 pub overflow_add-sum : goal.overflow_add-sum
-overflow_add-sum c =
-    let vs = c.args.vs.now in
-    omega (arith, numbers_le 9 vs c.loop-v.v-index (omega arith), numbers_room 9 vs)
+overflow_add-sum c = omega (arith, numbers_le, numbers_room)
 
 pub overflow_add-sum-in-loop-v : goal.overflow_add-sum-in-loop-v
-overflow_add-sum-in-loop-v c =
-    let vs = c.args.vs.now in
-    omega (arith, numbers_le 9 vs c.loop-v.v-index (omega arith), numbers_room 9 vs)
+overflow_add-sum-in-loop-v c = omega (arith, numbers_le, numbers_room)
 
 pub loop-v-preserved : goal.loop-v-preserved
 loop-v-preserved c =

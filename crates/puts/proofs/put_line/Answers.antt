@@ -9,24 +9,16 @@ use Rattle.puts.proofs.put_line.Goals as goal
 
 -- the word, the fields and the newline have room
 pub put_word-at-requires : goal.put_word-at-requires
-put_word-at-requires c =
-    let a = c.args in
-    omega (arith, line_length a.between (word_of a.word) (map digits_of a.vs.now))
+put_word-at-requires c = omega (arith, line_length)
 
 pub put_numbers-end-requires : goal.put_numbers-end-requires
-put_numbers-end-requires c =
-    let a = c.args in
-    omega (arith, line_length a.between (word_of a.word) (map digits_of a.vs.now))
+put_numbers-end-requires c = omega (arith, line_length)
 
 pub bounds-out-end : goal.bounds-out-end
-bounds-out-end c =
-    let a = c.args in
-    omega (arith, line_length a.between (word_of a.word) (map digits_of a.vs.now))
+bounds-out-end c = omega (arith, line_length)
 
 pub overflow_add-result : goal.overflow_add-result
-overflow_add-result c =
-    let a = c.args in
-    omega (arith, line_length a.between (word_of a.word) (map digits_of a.vs.now))
+overflow_add-result c = omega (arith, line_length)
 
 pub returns : goal.returns
 returns c =

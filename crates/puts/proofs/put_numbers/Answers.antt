@@ -12,14 +12,14 @@ loop-v-init c = laid_none _ _
 
 -- the number at hand has room
 pub bounds-out-end : goal.bounds-out-end
-bounds-out-end c = omega (arith, numbers_le c.args.between c.args.vs.now c.loop-v.v-index c.loop-v-test.true)
+bounds-out-end c = omega (arith, numbers_le)
 
 pub overflow_add-end : goal.overflow_add-end
-overflow_add-end c = omega (arith, numbers_le c.args.between c.args.vs.now c.loop-v.v-index c.loop-v-test.true)
+overflow_add-end c = omega (arith, numbers_le)
 
 pub put_number-end-requires : goal.put_number-end-requires
 put_number-end-requires c =
-    simp length-set (omega (arith, numbers_le c.args.between c.args.vs.now c.loop-v.v-index c.loop-v-test.true))
+    simp length-set (omega (arith, numbers_le))
 
 pub loop-v-preserved : goal.loop-v-preserved
 loop-v-preserved c =
