@@ -39,7 +39,8 @@ module _ (s : TaskSet) (i : ℕ) (b : Bool) where
 
   tasks_answered : tasks_from with_answer 0 (i + 1) ≡ tasks_from s 0 i ++ pick b ((i + 1) ∷ []) []
   tasks_answered =
-      rw (add-one i, tasks_more with_answer 0 i, zero-add i, tasks_cong with_answer s i 0 (λ j l h. answer_other j (omega arith)), answer_there)
+      let before = tasks_cong with_answer s i 0 (λ j l h. answer_other j (omega arith)) in
+      rw (add-one i, tasks_more with_answer 0 i, zero-add i, before, answer_there)
 
 module _ {P : ℕ → Bool → Type 0} {slot i n : ℕ} {numbers : List ℕ} (g : Gathered P slot i n numbers) where
   answered : (b : Bool) → P i b → (j : ℕ) → j < i + 1 → P j (with_answer g.members i b j)
