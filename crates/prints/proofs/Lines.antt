@@ -1,11 +1,15 @@
 -- The printed lines: what stands in each field, how long each can be, and that they are the lines of the rules.
 use mathlib.Core.Path.{◌≡◌, refl, sym, ap, ◌∙◌}
-use mathlib.Core.Bool.{Bool, true, false}
+use mathlib.Core.Bool.{Bool, true, false, not}
 use mathlib.Core.List.{List, [], ◌∷◌, ◌++◌, map, append-nil}
 use Prim.Native.Nat.{ℕ, zero, suc, ◌+◌, ◌-◌, ◌≤◌}
 use native.Mathlib.Omega.{arith}
+use borrow.Author.Tests.{ne_eqb}
 use lib.Dec.{eqb}
 use lib.ListN.{length, length-append}
+use Rattle.std.specs.Prelude.{Option, None, Some}
+use Rattle.std.specs.Bool.{then_some}
+use Rattle.std.specs.Option.{SomeIff}
 use Rattle.rules.specs.Words.{pick}
 use Rattle.rules.specs.Limits.{max_tasks}
 use Rattle.rules.specs.Case.{Case, task_count, release_count}
@@ -20,7 +24,7 @@ use Rattle.puts.specs.Laid.{Laid}
 use Rattle.puts.specs.Fields.{fields_text, number_fields, number_line, word_of}
 use Rattle.puts.proofs.Chosen.{word_short}
 use Rattle.puts.proofs.Lines.{line_length, numbers_room, fields_then}
-use Rattle.prints.specs.Lines.{line_room, Printed, outcome_room, outcome_fields, run_text, total_text}
+use Rattle.prints.specs.Lines.{line_room, Printed, outcome_room, outcome_fields, time_field, run_text, total_text}
 
 -- ---- the lines of a case by the numbers that stand in them
 pub run_is : (c : Case) → run_line c ≡ run_text c.policy c.procs (task_count c.table) c.end
@@ -54,13 +58,17 @@ verdict_room_lem v = go (eqb v 1) (eqb v 2)
     go false true = omega arith
     go false false = omega arith
 
-pub finish_room : (f : ℕ) → length (finish_field f) ≤ 10
+finish_room : (f : ℕ) → length (finish_field f) ≤ 10
 finish_room zero = omega arith
 finish_room (suc f) = at_most_ten (suc f)
 
-pub demotion_room : (d : ℕ) → length (demotion_field d) ≤ 10
+demotion_room : (d : ℕ) → length (demotion_field d) ≤ 10
 demotion_room zero = omega arith
 demotion_room (suc d) = at_most_ten d
+
+pub time_room : (t : Option ℕ) → length (time_field t) ≤ 10
+time_room None = omega arith
+time_room (Some t) = at_most_ten t
 
 pub outcome_room_lem : (r : Record) → length (outcome_fields r) ≤ outcome_room
 unfolding outcome_fields fields_text
@@ -96,11 +104,13 @@ job_is time task due r =
     (sym (fields_then space_byte numbers words) ∙ ap (λ (l : List ℕ). fields_text space_byte numbers ++ l)
     (sym (fields_then space_byte words [])))
 
--- ---- a time that is there
-pub finish_some : (f : ℕ) → (f ≡ 0 → ⊥) → finish_field f ≡ digits_of f
-finish_some zero h = absurd (h refl)
-finish_some (suc f) h = refl
+-- ---- the times of a record, which has 0 for none and a demotion time as one more
+pub finish_is : (f : ℕ) → time_field (then_some (not (eqb f 0)) f) ≡ finish_field f
+finish_is zero = refl
+finish_is (suc f) = rw (ne_eqb (suc f) 0 (λ e. omega arith))
 
-pub demotion_some : (d : ℕ) → (d ≡ 0 → ⊥) → demotion_field d ≡ digits_of (d - 1)
-demotion_some zero h = absurd (h refl)
-demotion_some (suc d) h = ap digits_of (omega arith)
+pub demotion_is : (d : ℕ) (r : Option ℕ) → SomeIff r (1 ≤ d) (d - 1) → time_field r ≡ demotion_field d
+demotion_is zero None h = refl
+demotion_is zero (Some t) h = absurd (omega (arith, h.0))
+demotion_is (suc d) None h = absurd (h (omega arith))
+demotion_is (suc d) (Some t) h = ap digits_of (omega (arith, h.1))

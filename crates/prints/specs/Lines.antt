@@ -1,6 +1,6 @@
 -- The printed lines of rules, Report, by the numbers that stand in them, as their writers get them; and a line beside document 01's own:
 -- the free count of a task.
-use Rattle.std.specs.Prelude.{ℕ, ◌+◌, ◌*◌, ◌≤◌, List, [], ◌∷◌, length}
+use Rattle.std.specs.Prelude.{Option, None, Some, ℕ, ◌+◌, ◌*◌, ◌≤◌, List, [], ◌∷◌, length}
 use Rattle.rules.specs.Replay.{Record}
 use Rattle.rules.specs.Text.{digits_of}
 use Rattle.rules.specs.Policies.{policy_name}
@@ -34,6 +34,11 @@ line_room = 400
 pub record Printed (room : ℕ) (text old new : List ℕ) (n : ℕ) : Type 0 where
   pub laid : Laid 0 text old new n
   pub short : n ≤ room
+
+-- ---- a time that may be none: its digits, or `-`
+abbrev pub time_field : Option ℕ → List ℕ
+time_field None = 45 ∷ []
+time_field (Some t) = digits_of t
 
 -- ---- the lines
 -- `run`: policy, processors, tasks, end

@@ -3,10 +3,10 @@
 
 ghost use Rattle.std.specs.Prelude.{◌∷◌, ◌+◌, ◌≤◌, length};
 ghost use Rattle.rules.specs.Replay.{record_of};
-ghost use Rattle.rules.specs.Report.{space_byte, verdict_name, finish_field, demotion_field, job_line, refused_line};
+ghost use Rattle.rules.specs.Report.{space_byte, verdict_name, job_line, refused_line};
 ghost use Rattle.puts.specs.Laid.{Laid};
-ghost use Rattle.prints.specs.Lines.{line_room, job_room, field_room, verdict_room, outcome_room, Printed, outcome_fields, run_text};
-ghost use Rattle.prints.specs.Lines.{total_text, count_line};
+ghost use Rattle.prints.specs.Lines.{line_room, job_room, field_room, verdict_room, outcome_room, Printed, outcome_fields, time_field};
+ghost use Rattle.prints.specs.Lines.{run_text, total_text, count_line};
 
 use policies::put_policy;
 use puts::{COUNT, JOB, REFUSED, RUN, SPACE, TOTAL, put_bytes, put_line, put_numbers, put_word};
@@ -21,8 +21,7 @@ pub fn put_total(out: &mut [u8], releases: u32, met: u32, missed: u32, still_ope
     requires { line_room ≤ length out.old }
     ensures { Printed line_room (total_text releases met missed still_open) out.old out.new result }
 {
-    let numbers = [releases, met, missed, still_open];
-    put_line(out, SPACE, TOTAL, &numbers)
+    put_line(out, SPACE, TOTAL, &[releases, met, missed, still_open])
 }
 
 // Writes the line of a refusal: its number and its place.
@@ -30,8 +29,7 @@ pub fn put_refused(out: &mut [u8], number: u32, place: u32) -> usize
     requires { line_room ≤ length out.old }
     ensures { Printed line_room (refused_line number place) out.old out.new result }
 {
-    let numbers = [number, place];
-    put_line(out, SPACE, REFUSED, &numbers)
+    put_line(out, SPACE, REFUSED, &[number, place])
 }
 
 // Writes the line of a task's free count.
@@ -39,8 +37,7 @@ pub fn put_count(out: &mut [u8], task: u32, count: u32) -> usize
     requires { line_room ≤ length out.old }
     ensures { Printed line_room (count_line task count) out.old out.new result }
 {
-    let numbers = [task, count];
-    put_line(out, SPACE, COUNT, &numbers)
+    put_line(out, SPACE, COUNT, &[task, count])
 }
 
 // ---- the run line and the job line, which have words among their fields
@@ -52,13 +49,13 @@ pub fn put_run(out: &mut [u8], policy: u32, procs: u32, tasks: u32, end: u32) ->
 {
     let at = put_word(out, RUN);
     let numbers_at = put_policy(out, at, SPACE, policy);
-    let numbers = [procs, tasks, end];
-    let last = put_numbers(out, numbers_at, SPACE, &numbers);
+    let last = put_numbers(out, numbers_at, SPACE, &[procs, tasks, end]);
     out[last] = b'\n';
     last + 1
 }
 
 // Writes a space and the verdict's word, chosen by its number.
+#[tactic(auto, unfolding(rules::specs::Report::verdict_name))]
 fn put_verdict(out: &mut [u8], at: usize, verdict: u32) -> usize
     requires { at + verdict_room ≤ length out.old }
     ensures { Laid at (space_byte ∷ verdict_name verdict) out.old out.new result }
@@ -70,39 +67,26 @@ fn put_verdict(out: &mut [u8], at: usize, verdict: u32) -> usize
     }
 }
 
-// Writes a space and a finish time, or `-` where there is none.
-fn put_finish(out: &mut [u8], at: usize, finish: u32) -> usize
+// Writes a space and a time, or `-` where there is none.
+fn put_time(out: &mut [u8], at: usize, time: Option<u32>) -> usize
     requires { at + field_room ≤ length out.old }
-    ensures { Laid at (space_byte ∷ finish_field finish) out.old out.new result }
+    ensures { Laid at (space_byte ∷ time_field time) out.old out.new result }
 {
-    if finish == 0 {
-        return put_bytes(out, at, b" -");
+    match time {
+        Some(t) => put_numbers(out, at, SPACE, &[t]),
+        None => put_bytes(out, at, b" -"),
     }
-    let numbers = [finish];
-    put_numbers(out, at, SPACE, &numbers)
 }
 
-// Writes a space and a demotion time, which a record holds as one more, or `-` where never demoted.
-fn put_demotion(out: &mut [u8], at: usize, demotion: u32) -> usize
-    requires { at + field_room ≤ length out.old }
-    ensures { Laid at (space_byte ∷ demotion_field demotion) out.old out.new result }
-{
-    if demotion == 0 {
-        return put_bytes(out, at, b" -");
-    }
-    let time = demotion - 1;
-    let numbers = [time];
-    put_numbers(out, at, SPACE, &numbers)
-}
-
-// Writes what a record says of its job, each field with a space in front: verdict, finish time, demotion time.
+// Writes what a record says of its job, each field with a space in front: verdict, finish time, demotion time. A record holds 0 for no
+// time, and a demotion time as one more.
 fn put_outcome(out: &mut [u8], at: usize, verdict: u32, finish: u32, demotion: u32) -> usize
     requires { at + outcome_room ≤ length out.old }
     ensures { Laid at (outcome_fields (record_of verdict finish demotion)) out.old out.new result }
 {
     let finish_at = put_verdict(out, at, verdict);
-    let demotion_at = put_finish(out, finish_at, finish);
-    put_demotion(out, demotion_at, demotion)
+    let demotion_at = put_time(out, finish_at, (finish != 0).then_some(finish));
+    put_time(out, demotion_at, demotion.checked_sub(1))
 }
 
 // Writes the job line of a release: its time, task and deadline, and the numbers of its record.
@@ -120,8 +104,7 @@ pub fn put_job(
         out.new result }
 {
     let at = put_word(out, JOB);
-    let numbers = [time, task, due];
-    let verdict_at = put_numbers(out, at, SPACE, &numbers);
+    let verdict_at = put_numbers(out, at, SPACE, &[time, task, due]);
     let line_end = put_outcome(out, verdict_at, verdict, finish, demotion);
     out[line_end] = b'\n';
     line_end + 1

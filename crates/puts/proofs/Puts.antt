@@ -1,16 +1,14 @@
 -- Laws of what is laid: nothing, one byte, one text behind another, a text in a lent part.
 use mathlib.Core.Path.{◌≡◌, refl, sym, ap, ◌∙◌}
 use mathlib.Core.List.{List, [], ◌∷◌, ◌++◌, append-nil}
-use Prim.Native.Nat.{ℕ, suc, ◌+◌, ◌-◌, ◌/◌, ◌%◌, ◌^◌, ◌≤◌, ◌<◌}
+use Prim.Native.Nat.{ℕ, suc, ◌+◌, ◌-◌, ◌/◌, ◌%◌, ◌≤◌}
 use native.Mathlib.Nat.{add-zero, add-suc, suc-add, zero-add}
-use native.Mathlib.Numerals.{add-one}
 use native.Mathlib.Omega.{arith}
-use lib.ListN.{length, take, drop, set, get_or, length-append, length-drop, take-append-drop}
-use lib.Seq.{sets, sets-eq, length-sets, set_comm, length-take-le, take_all, take-suc, drop-length}
+use lib.ListN.{length, take, drop, set, length-append, length-drop, take-append-drop}
+use lib.Seq.{sets, sets-eq, length-sets, set_comm, length-take-le, take_all, drop-length}
 use borrow.Rule.Slice.PartMut.{put_mid, post_of, Post-is}
-use Rattle.rules.specs.Text.{digits_of}
 use Rattle.puts.specs.Laid.{Laid}
-use Rattle.puts.proofs.Digits.{step, step_length}
+use Rattle.puts.proofs.Digits.{last_digits, last_digits-length}
 
 -- ---- runs of stores
 sets_append : (l : List ℕ) (i : ℕ) (vs ws : List ℕ) → sets l i (vs ++ ws) ≡ sets (sets l i vs) (i + length vs) ws
@@ -35,13 +33,6 @@ sets_behind (x ∷ p) l vs = sets_cons x (p ++ l) (length p) vs ∙ ap (λ (m : 
 -- the last byte of a text may be stored before the others
 pub sets_last : (l : List ℕ) (i d : ℕ) (vs : List ℕ) → sets (set l (i + length vs) d) i vs ≡ sets l i (vs ++ (d ∷ []))
 sets_last l i d vs = sets_late l i (i + length vs) d vs (omega arith) ∙ sym (sets_append l i vs (d ∷ []))
-
--- one more byte of a text that is copied
-pub sets_suc : (l s : List ℕ) (i j : ℕ) → j < length s → set (sets l i (take j s)) (i + j) (get_or s j 0)
-    ≡ sets l i (take (j + 1) s)
-sets_suc l s i j h =
-    let n : length (take j s) ≡ j = length-take-le j s (omega arith) in
-    rw (add-one j, take-suc s j 0 h, sets_append l i (take j s) (get_or s j 0 ∷ []), n)
 
 -- ---- what is laid
 pub laid_none : (at : ℕ) (old : List ℕ) → Laid at [] old old at
@@ -89,8 +80,9 @@ pub laid_front : {text old new : List ℕ} {end : ℕ} → Laid 0 text old new e
 laid_front {text} {old} p h = p.bytes ∙ sets-eq text old 0 (omega arith) ∙ rw (zero-add (length text))
 
 -- the last digit of what is left, stored before the others
-pub store_digit : (out : List ℕ) (at w i d : ℕ) → 10 ≤ w → w < 2 ^ 32 → i ≡ at + length (digits_of w) → d ≡ 48 + w % 10
-    → sets (set out (i - 1) d) at (digits_of (w / 10)) ≡ sets out at (digits_of w)
-store_digit out at w i d h l e g =
-    let n : i - 1 ≡ at + length (digits_of (w / 10)) = omega (arith, step_length w h l) in
-    rw (step w h l, n, g) (sets_last out at (48 + w % 10) (digits_of (w / 10)))
+pub store_digit : (out : List ℕ) (at k w i d : ℕ) → i ≡ at + k → d ≡ 48 + w % 10
+    → sets (set out i d) at (last_digits k (w / 10)) ≡ sets out at (last_digits (suc k) w)
+unfolding last_digits
+store_digit out at k w i d e g =
+    let n : i ≡ at + length (last_digits k (w / 10)) = omega (arith, last_digits-length k (w / 10)) in
+    rw (n, g) (sets_last out at (48 + w % 10) (last_digits k (w / 10)))

@@ -38,16 +38,11 @@ fn digit(v: u32) -> u8
 }
 
 // How many digits v has.
+#[tactic(auto, using(crate::proofs::Digits::digits_length))]
 pub fn width(v: u32) -> usize
     ensures { result ≡ length (digits_of v) }
 {
-    let mut n: usize = 1;
-    let mut w = v;
-    while 10 <= w {
-        w = w / 10;
-        n += 1;
-    }
-    n
+    v.max(1).ilog10() as usize + 1
 }
 
 // Writes the decimal digits of v, the last one first.
@@ -56,14 +51,11 @@ pub fn put_number(out: &mut [u8], at: usize, v: u32) -> usize
     ensures { Laid at (digits_of v) out.old out.new result }
 {
     let end = at + width(v);
-    let mut i = end;
     let mut w = v;
-    while 10 <= w {
-        i -= 1;
+    for i in (at..end).rev() {
         out[i] = digit(w % 10);
-        w = w / 10;
+        w /= 10;
     }
-    out[at] = digit(w);
     end
 }
 
@@ -72,12 +64,9 @@ pub fn put_bytes(out: &mut [u8], at: usize, s: &[u8]) -> usize
     requires { at + length s.now ≤ length out.old }
     ensures { Laid at s.now out.old out.new result }
 {
-    let mut i: usize = 0;
-    while i < s.len() {
-        out[at + i] = s[i];
-        i += 1;
-    }
-    at + i
+    let end = at + s.len();
+    out[at..end].copy_from_slice(s);
+    end
 }
 
 // Writes each number with the byte `between` in front.
@@ -86,11 +75,9 @@ pub fn put_numbers(out: &mut [u8], at: usize, between: u8, vs: &[u32]) -> usize
     ensures { Laid at (number_fields between vs.now) out.old out.new result }
 {
     let mut end = at;
-    let mut i: usize = 0;
-    while i < vs.len() {
+    for v in vs {
         out[end] = between;
-        end = put_number(out, end + 1, vs[i]);
-        i += 1;
+        end = put_number(out, end + 1, *v);
     }
     end
 }
@@ -101,15 +88,14 @@ pub fn numbers_width(vs: &[u32]) -> usize
     ensures { result ≡ length (number_fields 9 vs.now) }
 {
     let mut sum: usize = 0;
-    let mut i: usize = 0;
-    while i < vs.len() {
-        sum += 1 + width(vs[i]);
-        i += 1;
+    for v in vs {
+        sum += 1 + width(*v);
     }
     sum
 }
 
 // Writes the word of a line, chosen by its number, at the start.
+#[tactic(auto, unfolding(crate::specs::Fields::word_of))]
 pub fn put_word(out: &mut [u8], word: u32) -> usize
     requires { length (word_of word) ≤ length out.old }
     ensures { Laid 0 (word_of word) out.old out.new result }

@@ -1,13 +1,12 @@
 -- The words that a number chooses, as they are laid, and how long they can be.
 use mathlib.Core.Path.{◌≡◌, refl}
 use mathlib.Core.List.{List, [], ◌∷◌}
-use Prim.Native.Nat.{ℕ, zero, suc, ◌+◌, ◌-◌, ◌≤◌}
+use Prim.Native.Nat.{ℕ, zero, suc, ◌≤◌}
 use native.Mathlib.Omega.{arith}
-use lib.ListN.{length, get_or, length-append, get_or-eq_default}
+use lib.ListN.{length, get_or, length-append}
 use Rattle.texts.specs.Digits.{at_most_ten}
 use Rattle.puts.specs.Laid.{Laid}
-use Rattle.puts.proofs.Chosen.{Outside, above}
-use Rattle.reasons.specs.Reasons.{sign_bytes, words, reasons, plain_reason, reason_of, reason_room, Said, NotEarly}
+use Rattle.reasons.specs.Reasons.{sign_bytes, words, reasons, plain_reason, reason_of, reason_room, Said}
 
 -- ---- how long
 abbrev Short : List (List ℕ) → Type 0
@@ -94,43 +93,3 @@ pub chosen : {n : ℕ} {old new : List ℕ} {end : ℕ} (p k : ℕ) → n ≡ k
     → Said (reason_of n p) old new end
 unfolding reason_of
 chosen p k e l = rw e (said k p refl l)
-
--- ---- a number that is none of 1 to 12, as a match says it in its last arm
-pub not_early : (n : ℕ) → Outside 12 n → NotEarly n
-not_early n o h = above 12 n h o
-
--- ---- a number with no words of its own
--- none of the k numbers from a on, as a match says it in its last arm
-abbrev pub NoneFrom : ℕ → ℕ → ℕ → Type 0
-NoneFrom a zero n = Unit {0}
-NoneFrom a (suc k) n = NoneFrom a k n × (n ≡ a + k → ⊥)
-
--- one that is not below a is above all of them
-above_from : (a k n : ℕ) → a ≤ n → NoneFrom a k n → a + k ≤ n
-above_from a zero n h o = omega (arith, h)
-above_from a (suc k) n h o = next a k n o.1 (above_from a k n h o.0)
-  where
-    next : (a k n : ℕ) → (n ≡ a + k → ⊥) → a + k ≤ n → a + suc k ≤ n
-    next a k n f b = omega (arith, f)
-
--- the last number with words of its own, and those from 13 to it, which `put_late_reason` has
-abbrev pub last_worded : ℕ
-last_worded = 19
-
-abbrev first_late : ℕ
-first_late = 13
-
-abbrev late_numbers : ℕ
-late_numbers = last_worded - 12
-
-beyond : (n p : ℕ) → NotEarly n → NoneFrom first_late late_numbers n → plain_reason n p ≡ reason_of n p
-unfolding reason_of
-beyond zero p e o = refl
-beyond (suc n) p e o =
-    let h : suc last_worded ≤ suc n = above_from first_late late_numbers (suc n) (e (omega arith)) o in
-    rw (get_or-eq_default (plain_reason (suc n) p ∷ reasons p) (plain_reason (suc n) p) h)
-
-pub plainly : {old new : List ℕ} {end : ℕ} (n p : ℕ) → NotEarly n → NoneFrom first_late late_numbers n
-    → Laid 0 (plain_reason n p) old new end
-    → Said (reason_of n p) old new end
-plainly n p e o l = said n p (beyond n p e o) l

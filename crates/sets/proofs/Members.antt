@@ -2,10 +2,12 @@
 use mathlib.Core.Path.{◌≡◌, refl, ap, ◌∙◌}
 use mathlib.Core.Bool.{Bool, true, false}
 use mathlib.Core.List.{◌∷◌, map}
-use Prim.Native.Nat.{ℕ, zero, suc, ◌+◌, ◌-◌, ◌*◌, ◌%◌, ◌^◌, ◌≤◌, ◌<◌}
-use native.Mathlib.Nat.{add-zero, add-suc, suc-add, zero-add, pow-succ', mul_left_comm}
+use Prim.Native.Nat.{ℕ, zero, suc, ◌+◌, ◌-◌, ◌*◌, ◌/◌, ◌%◌, ◌^◌, ◌≤◌, ◌<◌}
+use native.Mathlib.Nat.{add-zero, add-suc, suc-add, zero-add, pow-suc, pow-succ', mul_left_comm, div-div-eq-div-mul}
 use native.Mathlib.Omega.{arith}
 use lib.Dec.{eqb}
+use Rattle.std.specs.Int.Bits.{bit_and}
+use Rattle.std.proofs.lemmas.Nat.{and_mask}
 use Rattle.rules.specs.Words.{bit, sum}
 use Rattle.rules.specs.Limits.{max_tasks}
 use Rattle.rules.specs.Case.{Case}
@@ -18,6 +20,20 @@ use Rattle.lists.specs.Lists.{tasks_more}
 use Rattle.puts.specs.Fields.{running_word}
 use Rattle.sets.specs.Sets.{halved, members_of, running_line}
 
+-- ---- of a number, by its bits
+halved_is : (i s : ℕ) → halved i s ≡ s / 2 ^ i
+unfolding halved
+halved_is zero s = omega arith
+halved_is (suc i) s = rw (halved_is i s, div-div-eq-div-mul, pow-suc)
+
+pub members_tasks : (s n : ℕ) → members_of s n ≡ tasks_from (λ i. eqb (bit_and (s / 2 ^ i) 1) 1) 0 n
+unfolding members_of
+members_tasks s zero = unfold tasks_from in refl
+members_tasks s (suc n) =
+    let lowest : bit_and (s / 2 ^ n) 1 ≡ s / 2 ^ n % 2 = and_mask (s / 2 ^ n) 1 in
+    rw (tasks_more (λ i. eqb (bit_and (s / 2 ^ i) 1) 1) 0 n, zero-add n, members_tasks s n, lowest, halved_is n s)
+
+-- ---- of a set
 bit_small : (b : Bool) → bit b ≤ 1
 bit_small true = omega arith
 bit_small false = omega arith

@@ -2,68 +2,47 @@
 // leaves it. The numbers of the line are gathered first: the slot, and behind it the tasks.
 #![tactic(auto)]
 
-ghost use Rattle.std.specs.Prelude.{false, [], ◌∷◌, ◌+◌, ◌≤◌, length, get_or};
-ghost use Rattle.rules.specs.Words.{pick};
+ghost use Rattle.std.specs.Prelude.{false, ℕ, ◌∷◌, ◌<◌, ◌≤◌, length, get_or};
 ghost use Rattle.rules.specs.Limits.{max_tasks};
-ghost use Rattle.rules.specs.Slot.{tasks_in};
+ghost use Rattle.rules.specs.Slot.{TaskSet, tasks_in};
 ghost use Rattle.rules.specs.Log.{slot_line_text};
-ghost use Rattle.puts.specs.Laid.{Laid};
+ghost use Rattle.puts.specs.Fields.{number_line};
 ghost use Rattle.prints.specs.Lines.{line_room, Printed};
-ghost use Rattle.sets.specs.Sets.{members_of, running_line};
+ghost use Rattle.sets.specs.Sets.{running_line};
 
 use puts::{RUNNING, SLOT, SPACE, TAB, put_line};
 use rules::MAX_TASKS;
 
-// Writes the task's number if it is in the set.
-fn put_member(out: &mut [u32], at: usize, task: u32, is_in: bool) -> usize
-    requires { at + 1 ≤ length out.old }
-    ensures { Laid at (pick is_in (task ∷ []) []) out.old out.new result }
+// Writes the line of a slot and the tasks of a set, in rising order; `is_in` says which are in it, the first at 0.
+fn put_set_line<F: Fn(usize) -> bool>(
+    out: &mut [u8],
+    between: u8,
+    word: u32,
+    slot: u32,
+    is_in: F,
+) -> usize
+    requires room { line_room ≤ length out.old }
+    requires callable { (i : ℕ) → i < max_tasks → F.pre is_in i }
+    ensures { (set : TaskSet) × ((i : ℕ) → i < max_tasks → F.post is_in i (set i))
+        × Printed line_room (number_line between word (slot ∷ tasks_in set)) out.old out.new result }
 {
-    if is_in {
-        out[at] = task;
-        return at + 1;
+    let mut numbers = [slot; MAX_TASKS + 1];
+    let mut n = 1;
+    for i in 0..MAX_TASKS {
+        if is_in(i) {
+            numbers[n] = i as u32 + 1;
+            n += 1;
+        }
     }
-    at
+    put_line(out, between, word, &numbers[..n])
 }
 
-// Writes the tasks of a set that is a number, in rising order: the lowest bit says whether the next task is in it.
-fn put_members(out: &mut [u32], at: usize, set: u32) -> usize
-    requires { at + max_tasks ≤ length out.old }
-    ensures { Laid at (members_of set max_tasks) out.old out.new result }
-{
-    let mut end = at;
-    let mut bits = set;
-    let mut i: u32 = 0;
-    while i < 32 {
-        end = put_member(out, end, i + 1, bits % 2 == 1);
-        bits = bits / 2;
-        i += 1;
-    }
-    end
-}
-
-// Writes the line of a slot's running set.
+// Writes the line of a slot's running set, a number whose lowest bit stands for the first task.
 pub fn put_running(out: &mut [u8], slot: u32, set: u32) -> usize
     requires { line_room ≤ length out.old }
     ensures { Printed line_room (running_line slot set) out.old out.new result }
 {
-    let mut numbers = [slot; 33];
-    let n = put_members(&mut numbers, 1, set);
-    put_line(out, SPACE, RUNNING, &numbers[0..n])
-}
-
-// Writes the tasks of a set that stands in an array, in rising order.
-fn put_tasks(out: &mut [u32], at: usize, set: &[bool; MAX_TASKS]) -> usize
-    requires { at + max_tasks ≤ length out.old }
-    ensures { Laid at (tasks_in (λ i. get_or set.now i false)) out.old out.new result }
-{
-    let mut end = at;
-    let mut i: usize = 0;
-    while i < MAX_TASKS {
-        end = put_member(out, end, i as u32 + 1, set[i]);
-        i += 1;
-    }
-    end
+    put_set_line(out, SPACE, RUNNING, slot, |i| (set >> i) & 1 == 1)
 }
 
 // Writes the line of a slot log: the time of the slot and the tasks that ran in it.
@@ -72,7 +51,5 @@ pub fn put_slot_line(out: &mut [u8], time: u32, ran: &[bool; MAX_TASKS]) -> usiz
     ensures { Printed line_room (slot_line_text time (tasks_in (λ i. get_or ran.now i false))) out.old
         out.new result }
 {
-    let mut numbers = [time; 33];
-    let n = put_tasks(&mut numbers, 1, ran);
-    put_line(out, TAB, SLOT, &numbers[0..n])
+    put_set_line(out, TAB, SLOT, time, |i| ran[i])
 }

@@ -1,40 +1,23 @@
 -- `prints::put_outcome` meets its contract: the verdict, the two times, one behind the other.
-use Prim.Native.Nat.{◌+◌, ◌≤◌}
+use mathlib.Core.Path.{◌≡◌}
 use native.Mathlib.Omega.{arith}
-use lib.ListN.{length}
 use Rattle.rules.specs.Replay.{record_of}
+use Rattle.rules.specs.Report.{finish_field, demotion_field}
 use Rattle.puts.proofs.Puts.{laid_then}
-use Rattle.prints.specs.Lines.{verdict_room, outcome_room}
-use Rattle.prints.proofs.Lines.{verdict_room_lem, finish_room, outcome_is}
+use Rattle.prints.specs.Lines.{time_field}
+use Rattle.prints.proofs.Lines.{verdict_room_lem, time_room, finish_is, demotion_is, outcome_is}
 use Rattle.prints.proofs.put_outcome.Goals as goal
 
-pub put_finish-demotion_at-requires : goal.put_finish-demotion_at-requires
-put_finish-demotion_at-requires c =
-    -- how far the fields have come, and that the room is what it was
-    let judged : (c.put_verdict-finish_at.result ≤ c.args.at + verdict_room)
-    × (c.args.at + outcome_room ≤ length c.put_verdict-finish_at.new.out) = let put = c.put_verdict-finish_at in
-    omega (arith, put.ensures.behind, put.auto.out, verdict_room_lem c.args.verdict) in
-    omega (arith, judged)
+pub put_time-demotion_at-requires : goal.put_time-demotion_at-requires
+put_time-demotion_at-requires c = omega (arith, verdict_room_lem)
 
-pub put_demotion-requires : goal.put_demotion-requires
-put_demotion-requires c =
-    -- how far the fields have come, and that the room is what it was
-    let judged : (c.put_verdict-finish_at.result ≤ c.args.at + verdict_room)
-    × (c.args.at + outcome_room ≤ length c.put_verdict-finish_at.new.out) = let put = c.put_verdict-finish_at in
-    omega (arith, put.ensures.behind, put.auto.out, verdict_room_lem c.args.verdict) in
-    let put = c.put_finish-demotion_at in
-    omega (
-      arith,
-      judged,
-      put.ensures.behind,
-      put.auto.out,
-      finish_room c.args.finish,
-    )
+pub put_time-requires : goal.put_time-requires
+put_time-requires c = omega (arith, verdict_room_lem, time_room)
 
 pub returns : goal.returns
 returns c =
     let a = c.args in
-    let verdict = c.put_verdict-finish_at.ensures in
-    let finish = c.put_finish-demotion_at.ensures in
-    let demotion = c.put_demotion.ensures in
-    rw (outcome_is (record_of a.verdict a.finish a.demotion)) (laid_then verdict (laid_then finish demotion))
+    let finish : time_field c.then_some.result ≡ finish_field a.finish = rw c.then_some.ensures (finish_is a.finish) in
+    let demotion : time_field c.checked_sub.result ≡ demotion_field a.demotion = demotion_is _ _ c.checked_sub.ensures in
+    rw (outcome_is (record_of a.verdict a.finish a.demotion), ← finish, ← demotion)
+    (laid_then c.put_verdict-finish_at.ensures (laid_then c.put_time-demotion_at.ensures c.put_time.ensures))

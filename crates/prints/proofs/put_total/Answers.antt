@@ -1,6 +1,5 @@
 -- `prints::put_total` meets its contract: it is a line of numbers.
-use mathlib.Core.List.{List, [], ◌∷◌}
-use Prim.Native.Nat.{ℕ}
+use mathlib.Core.List.{[], ◌∷◌}
 use native.Mathlib.Omega.{arith}
 use borrow.Author.Rules.{rules}
 use Rattle.rules.specs.Report.{space_byte}
@@ -9,14 +8,11 @@ use Rattle.prints.specs.Lines.{total_text}
 use Rattle.prints.proofs.Lines.{line_within, line_printed}
 use Rattle.prints.proofs.put_total.Goals as goal
 
--- what is said, first: the room is the same whatever the numbers are
+pub put_line-requires : goal.put_line-requires
+put_line-requires c = search (rules, line_within)
+
 pub returns : goal.returns
 unfolding total_text word_of
 returns c =
-    let numbers : List ℕ = c.args.releases ∷ c.args.met ∷ c.args.missed ∷ c.args.still_open ∷ [] in
-    line_printed space_byte 7 numbers (omega arith) (search rules)
-
-pub put_line-requires : goal.put_line-requires
-put_line-requires c =
-    let numbers : List ℕ = c.args.releases ∷ c.args.met ∷ c.args.missed ∷ c.args.still_open ∷ [] in
-    line_within space_byte 7 numbers (omega arith) (search rules)
+    let a = c.args in
+    line_printed space_byte 7 (a.releases ∷ a.met ∷ a.missed ∷ a.still_open ∷ []) (omega arith) c.put_line.ensures

@@ -1,7 +1,9 @@
 -- `reasons::put_late_reason` meets its contract: in each arm the words are known by the number.
-use Rattle.reasons.specs.Reasons.{sign_bytes, words}
-use Rattle.reasons.proofs.Chosen.{chosen, plainly}
+use Rattle.reasons.specs.Reasons.{sign_bytes, words, reason_of}
+use Rattle.reasons.proofs.Chosen.{chosen, reason_short}
 use borrow.Author.Rules.{rules}
+use native.Mathlib.Omega.{arith}
+use Rattle.std.proofs.lemmas.Grind.{common_steps}
 use Rattle.reasons.proofs.put_late_reason.Goals as goal
 
 pub returns-in-13 : goal.returns-in-13
@@ -33,5 +35,5 @@ unfolding words sign_bytes
 returns-in-19 c = chosen _ 19 (search rules) c.put_bytes-in-19.ensures
 
 pub returns-in_default : goal.returns-in_default
-returns-in_default c =
-    plainly _ _ c.requires.not_early (search rules) c.put_plain.ensures
+unfolding reason_of words sign_bytes
+returns-in_default c = grind (arith, common_steps, reason_short)

@@ -1,40 +1,19 @@
--- `sets::put_running` meets its contract: it is a line of numbers, the slot first and then the tasks of the set.
-use mathlib.Core.Path.{◌≡◌}
-use mathlib.Core.List.{◌∷◌}
-use Prim.Native.Nat.{◌-◌}
-use native.Mathlib.Omega.{arith}
-use lib.ListN.{take}
-use Rattle.rules.specs.Limits.{max_tasks}
-use Rattle.rules.specs.Report.{space_byte}
+-- `sets::put_running` meets its contract: the tasks that the bits of the number name are its members.
+use lib.Dec.{eqb}
+use Prim.Native.Nat.{ℕ, ◌/◌, ◌^◌}
+use borrow.Author.Rules.{rules}
+use Rattle.std.specs.Int.Bits.{bit_and}
+use Rattle.rules.specs.Slot.{tasks_in}
+use Rattle.lists.specs.Lists.{tasks_same}
 use Rattle.puts.specs.Fields.{word_of}
-use Rattle.prints.proofs.Lines.{line_within, line_printed}
-use Rattle.sets.specs.Sets.{members_of, running_line}
-use Rattle.sets.proofs.Tasks.{members_few, slot_first}
+use Rattle.sets.specs.Sets.{running_line}
+use Rattle.sets.proofs.Members.{members_tasks}
+use Rattle.rules.specs.Limits.{max_tasks}
 use Rattle.sets.proofs.put_running.Goals as goal
 
-pub slice_bounds-put_line-end : goal.slice_bounds-put_line-end
-slice_bounds-put_line-end c =
-    let put = c.put_members-n in
-    omega (arith, put.ensures.behind, put.auto.out, members_few c.args.set max_tasks)
-
--- what is said, first: the room is the same whatever the numbers are
 pub returns : goal.returns
-unfolding running_line word_of
+unfolding running_line word_of tasks_in
 returns c =
-    -- the numbers of the line
-    let numbers : take (c.put_members-n.result - 0) c.put_members-n.new.out ≡ c.args.slot ∷ members_of c.args.set max_tasks =
-    slot_first _ _ _ _ _ (members_few c.args.set max_tasks) c.put_members-n.ensures in
-    let put = c.put_line in
-    line_printed space_byte 10 (c.args.slot ∷ members_of c.args.set max_tasks)
-    (omega (arith, members_few c.args.set max_tasks))
-    (rw numbers at put.ensures)
-
-pub put_line-requires : goal.put_line-requires
-put_line-requires c =
-    -- the numbers of the line
-    let numbers : take (c.put_members-n.result - 0) c.put_members-n.new.out ≡ c.args.slot ∷ members_of c.args.set max_tasks =
-    slot_first _ _ _ _ _ (members_few c.args.set max_tasks) c.put_members-n.ensures in
-    rw numbers
-    (line_within space_byte 10 (c.args.slot ∷ members_of c.args.set max_tasks)
-    (omega (arith, members_few c.args.set max_tasks))
-    c.requires)
+    let line = c.put_set_line.ensures in
+    let bits = λ (i : ℕ). eqb (bit_and (c.args.set / 2 ^ i) 1) 1 in
+    rw (members_tasks c.args.set max_tasks, ← tasks_same line.0 bits (λ i h. let told = line.1 i h in search rules)) line.2

@@ -1,19 +1,13 @@
--- `words::same_bytes` meets its contract.
-use mathlib.Core.Path.{sym, ◌∙◌}
-use native.Mathlib.Omega.{arith}
-use Rattle.words.proofs.Same.{same_lengths, same_on, same_off, same_done}
+-- `words::same_bytes` meets its contract: `==` compares as `same` does, head by head.
+use Rattle.std.proofs.Common.{rules}
+use Rattle.std.proofs.lemmas.Bool.Decides.{Decides-eqb, same_from_decides}
+use Rattle.std.proofs.lemmas.Slice.Eq.{slice_eq-Decides, compares_Decides}
+use Rattle.rules.specs.Text.{same}
 use Rattle.words.proofs.same_bytes.Goals as goal
 
-pub returns-then-a-b : goal.returns-then-a-b
-returns-then-a-b c = sym (same_lengths _ _ c.if-a-b.true)
-
-pub returns-then-a-i : goal.returns-then-a-i
-returns-then-a-i c =
-    sym (c.loop-i.invariant.1 ∙ same_off _ _ c.loop-i.i (omega arith) (omega arith) c.if-a-i.true)
-
-pub loop-i-preserved : goal.loop-i-preserved
-loop-i-preserved c =
-    (omega arith, c.loop-i.invariant.1 ∙ same_on _ _ c.loop-i.i (omega arith) (omega arith) c.if-a-i.false)
-
 pub returns : goal.returns
-returns c = sym (c.loop-i.invariant.1 ∙ same_done _ _ c.loop-i.i (omega arith) (omega arith))
+unfolding same
+returns c =
+    let a = c.args.a.now in
+    let b = c.args.b.now in
+    same_from_decides _ (same a b) (slice_eq-Decides Decides-eqb _ _ _ c.eq.ensures) (compares_Decides same (search rules) a b)
