@@ -4,8 +4,9 @@
 ghost use Rattle.std.specs.Prelude.{◌≡◌};
 ghost use Rattle.wishes.specs.Asks.{asked_of, word_asks, slot_asks, log_asks, is_quiet, one_asks, two_ask, three_ask, words_ask, is_known};
 ghost use Rattle.wishes.specs.Asks.{asked_fault};
+ghost use Rattle.rules.specs.Refusals.{checked};
 
-use rules::{Fault, Num};
+use rules::Fault;
 
 // What the words after the program's name ask for. `word` is the index of the log's name among the program's words: it may be any word
 // at all, and a longer one than is handed here.
@@ -35,6 +36,7 @@ fn asking(wish: Wish, quiet: bool) -> Asked
 }
 
 // The wish of the word that stands alone after the program's name.
+#[tactic(auto, unfolding(crate::specs::Asks::word_asks, reasons::specs::Reasons::words, reasons::specs::Reasons::sign_bytes))]
 fn alone(word: &[u8]) -> Wish
     ensures { result ≡ word_asks word.now }
 {
@@ -60,19 +62,18 @@ fn alone(word: &[u8]) -> Wish
 }
 
 // The wish of two words: `slot` and its number.
+#[tactic(auto, unfolding(crate::specs::Asks::slot_named, reasons::specs::Reasons::words, reasons::specs::Reasons::sign_bytes))]
 fn named_slot(word: &[u8], number: &[u8]) -> Wish
     ensures { result ≡ slot_asks word.now number.now }
 {
-    let Num::Value { value } = scan::number(number) else {
-        return Wish::Unknown;
-    };
-    if words::same_bytes(word, b"slot") {
-        return Wish::Slot { slot: value };
+    match scan::number(number) {
+        Some(slot) if words::same_bytes(word, b"slot") => Wish::Slot { slot },
+        _ => Wish::Unknown,
     }
-    Wish::Unknown
 }
 
 // The wish of two words of which the second is the program's word `at`: `log` and its file, or `slot` and its number.
+#[tactic(auto, unfolding(crate::specs::Asks::log_asks, reasons::specs::Reasons::words, reasons::specs::Reasons::sign_bytes))]
 fn named(word: &[u8], name: &[u8], at: u32) -> Wish
     ensures { result ≡ log_asks word.now name.now at }
 {
@@ -83,6 +84,7 @@ fn named(word: &[u8], name: &[u8], at: u32) -> Wish
 }
 
 // Whether a word is `-q`.
+#[tactic(auto, unfolding(reasons::specs::Reasons::words, reasons::specs::Reasons::sign_bytes))]
 fn is_quiet(word: &[u8]) -> bool
     ensures { result ≡ is_quiet word.now }
 {
@@ -90,6 +92,7 @@ fn is_quiet(word: &[u8]) -> bool
 }
 
 // What one word asks.
+#[tactic(auto, unfolding(crate::specs::Asks::one_asks, reasons::specs::Reasons::words, reasons::specs::Reasons::sign_bytes))]
 fn one_asks(first: &[u8]) -> Asked
     ensures { result ≡ one_asks first.now }
 {
@@ -100,6 +103,7 @@ fn one_asks(first: &[u8]) -> Asked
 }
 
 // What two words ask.
+#[tactic(auto, unfolding(crate::specs::Asks::two_ask, reasons::specs::Reasons::words, reasons::specs::Reasons::sign_bytes))]
 fn two_ask(first: &[u8], second: &[u8]) -> Asked
     ensures { result ≡ two_ask first.now second.now }
 {
@@ -113,6 +117,7 @@ fn two_ask(first: &[u8], second: &[u8]) -> Asked
 }
 
 // What three words ask.
+#[tactic(auto, unfolding(crate::specs::Asks::three_ask, reasons::specs::Reasons::words, reasons::specs::Reasons::sign_bytes))]
 fn three_ask(first: &[u8], second: &[u8], third: &[u8]) -> Asked
     ensures { result ≡ three_ask first.now second.now third.now }
 {
@@ -126,6 +131,7 @@ fn three_ask(first: &[u8], second: &[u8], third: &[u8]) -> Asked
 }
 
 // What so many words ask, the program's name being one of them.
+#[tactic(auto, unfolding(crate::specs::Asks::words_ask))]
 pub fn words_ask(words: usize, first: &[u8], second: &[u8], third: &[u8]) -> Asked
     ensures { result ≡ words_ask words first.now second.now third.now }
 {
@@ -139,36 +145,24 @@ pub fn words_ask(words: usize, first: &[u8], second: &[u8], third: &[u8]) -> Ask
 }
 
 // Whether a word is one of the command line's, wherever it stands.
+#[tactic(auto, unfolding(crate::specs::Asks::is_known, crate::specs::Asks::is_number, crate::specs::Asks::is_asked, reasons::specs::Reasons::words, reasons::specs::Reasons::sign_bytes))]
 pub fn is_known(word: &[u8]) -> bool
     ensures { result ≡ is_known word.now }
 {
-    if is_quiet(word) {
-        return true;
-    }
-    if words::same_bytes(word, b"slot") {
-        return true;
-    }
-    if words::same_bytes(word, b"log") {
-        return true;
-    }
-    let Num::Bad = scan::number(word) else {
-        return true;
-    };
-    let Wish::Unknown = alone(word) else {
-        return true;
-    };
-    false
+    is_quiet(word)
+        || words::same_bytes(word, b"slot")
+        || words::same_bytes(word, b"log")
+        || scan::number(word).is_some()
+        || !matches!(alone(word), Wish::Unknown)
 }
 
 // What is at fault in what a wish asks of an accepted case that ends there.
-pub fn asked_fault(wish: Wish, end: u32) -> Fault
-    ensures { result ≡ asked_fault wish end }
+#[tactic(auto, unfolding(crate::specs::Asks::asked_fault))]
+pub fn asked_fault(wish: Wish, end: u32) -> Result<(), Fault>
+    ensures { result ≡ checked (asked_fault wish end) }
 {
     match wish {
         Wish::Slot { slot } => faults::slot_fault(end, slot),
-        _ => Fault {
-            number: 0,
-            place: 0,
-        },
+        _ => Ok(()),
     }
 }
