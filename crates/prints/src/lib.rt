@@ -10,6 +10,7 @@ ghost use Rattle.prints.specs.Lines.{run_text, total_text, count_line};
 
 use policies::put_policy;
 use puts::{COUNT, JOB, REFUSED, RUN, SPACE, TOTAL, put_bytes, put_line, put_numbers, put_word};
+use rules::{Fault, Totals};
 
 // No line is longer than this: `line_room` of specs/Lines.antt.
 pub const LINE_ROOM: usize = 400;
@@ -17,19 +18,20 @@ pub const LINE_ROOM: usize = 400;
 // ---- lines of a word and numbers
 
 // Writes the total line.
-pub fn put_total(out: &mut [u8], releases: u32, met: u32, missed: u32, still_open: u32) -> usize
+pub fn put_total(out: &mut [u8], releases: u32, totals: Totals) -> usize
     requires { line_room ≤ length out.old }
-    ensures { Printed line_room (total_text releases met missed still_open) out.old out.new result }
+    ensures { Printed line_room (total_text releases totals.met totals.missed totals.«open») out.old out.new result }
 {
-    put_line(out, SPACE, TOTAL, &[releases, met, missed, still_open])
+    let Totals { met, missed, open } = totals;
+    put_line(out, SPACE, TOTAL, &[releases, met, missed, open])
 }
 
 // Writes the line of a refusal: its number and its place.
-pub fn put_refused(out: &mut [u8], number: u32, place: u32) -> usize
+pub fn put_refused(out: &mut [u8], fault: Fault) -> usize
     requires { line_room ≤ length out.old }
-    ensures { Printed line_room (refused_line number place) out.old out.new result }
+    ensures { Printed line_room (refused_line fault.number fault.place) out.old out.new result }
 {
-    put_line(out, SPACE, REFUSED, &[number, place])
+    put_line(out, SPACE, REFUSED, &[fault.number, fault.place])
 }
 
 // Writes the line of a task's free count.

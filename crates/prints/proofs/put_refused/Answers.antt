@@ -13,5 +13,5 @@ put_line-requires c = search (rules, line_within)
 pub returns : goal.returns
 unfolding refused_line word_of
 returns c =
-    let a = c.args in
-    line_printed space_byte 8 (a.number ∷ a.place ∷ []) (omega arith) c.put_line.ensures
+    let f = c.args.fault in
+    line_printed space_byte 8 (f.number ∷ f.place ∷ []) (omega arith) c.put_line.ensures

@@ -14,5 +14,5 @@ put_line-requires c = search (rules, line_within)
 pub returns : goal.returns
 unfolding total_text word_of
 returns c =
-    let a = c.args in
-    line_printed space_byte 7 (a.releases ∷ a.met ∷ a.missed ∷ a.still_open ∷ []) (omega arith) c.put_line.ensures
+    let t = c.args.totals in
+    line_printed space_byte 7 (c.args.releases ∷ t.met ∷ t.missed ∷ t.«open» ∷ []) (omega arith) c.put_line.ensures
