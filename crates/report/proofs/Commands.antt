@@ -1,4 +1,7 @@
 -- What a command prints once the answer of the call that it rests on is known by its case.
+use Rattle.std.specs.Prelude.{Result, Ok, Err}
+use Rattle.rules.specs.declared.Fault.{Fault}
+use Rattle.rules.specs.declared.Totals.{Totals}
 use mathlib.Core.Path.{◌≡◌, sym, ap, ◌∙◌}
 use mathlib.Core.List.{List, [], ◌∷◌, ◌++◌}
 use Prim.Native.Nat.{ℕ, ◌+◌, ◌≤◌, ◌<◌}
@@ -6,14 +9,6 @@ use native.Mathlib.Nat.{zero-add}
 use native.Mathlib.Omega.{arith}
 use lib.ListN.{length, get_or, drop, length-append}
 use lib.Seq.{sets, sets-eq}
-use Rattle.rules.specs.declared.Counted.{Counted}
-use Rattle.rules.specs.declared.Counted.TheVariants as Counted·
-use Rattle.rules.specs.declared.Replayed.{Replayed}
-use Rattle.rules.specs.declared.Replayed.TheVariants as Replayed·
-use Rattle.rules.specs.declared.Running.{Running}
-use Rattle.rules.specs.declared.Running.TheVariants as Running·
-use Rattle.rules.specs.declared.Written.{Written}
-use Rattle.rules.specs.declared.Written.TheVariants as Written·
 use Rattle.rules.specs.Limits.{max_tasks}
 use Rattle.rules.specs.Case.{Case, task_count}
 use Rattle.rules.specs.Counts.{free_count, free_counts}
@@ -33,25 +28,25 @@ use Rattle.report.proofs.Lines.{line_fits}
 use Rattle.report.proofs.Answers.{never_refused, values_are, write_fits, slot_refused, slot_ran}
 
 -- ---- the replay
-module _ (c : Case) (room : List ℕ) (x : Replayed) (f : (replay_fault c (length room)).number ≡ 0)
+module _ (c : Case) (room : List ℕ) (x : Result Totals Fault) (f : (replay_fault c (length room)).number ≡ 0)
     (h : replayed_as x ≡ replay_answer c room) where
-  pub replay_accepts : (n p : ℕ) → x ≡ Replayed·.Refused n p → ⊥
+  pub replay_accepts : (g : Fault) → x ≡ Err g → ⊥
   unfolding replay_answer
-  replay_accepts n p e = never_refused (replay_fault c (length room)) _ n p f (sym (ap replayed_as e) ∙ h)
+  replay_accepts g e = never_refused (replay_fault c (length room)) _ g.number g.place f (sym (ap replayed_as e) ∙ h)
 
-  pub replay_totals : (a b d : ℕ) → x ≡ Replayed·.Judged a b d
-      → ◌≡◌ {A = List ℕ} (a ∷ b ∷ d ∷ []) (met_jobs c ∷ missed_jobs c ∷ open_jobs c ∷ [])
+  pub replay_totals : (t : Totals) → x ≡ Ok t
+      → ◌≡◌ {A = List ℕ} (t.met ∷ t.missed ∷ t.«open» ∷ []) (met_jobs c ∷ missed_jobs c ∷ open_jobs c ∷ [])
   unfolding replay_answer
-  replay_totals a b d e = values_are (replay_fault c (length room)) _ _ (sym (ap replayed_as e) ∙ h)
+  replay_totals t e = values_are (replay_fault c (length room)) _ _ (sym (ap replayed_as e) ∙ h)
 
 -- ---- the counts
 module _ (m : ℕ) (ts room : List ℕ) (f : (counts_fault m ts (length room)).number ≡ 0) where
-  module _ (x : Counted) (h : counted_as x ≡ counts_answer m ts room) where
-    pub counts_accepts : (n p : ℕ) → x ≡ Counted·.Refused n p → ⊥
+  module _ (x : Result ℕ Fault) (h : counted_as x ≡ counts_answer m ts room) where
+    pub counts_accepts : (g : Fault) → x ≡ Err g → ⊥
     unfolding counts_answer
-    counts_accepts n p e = never_refused (counts_fault m ts (length room)) _ n p f (sym (ap counted_as e) ∙ h)
+    counts_accepts g e = never_refused (counts_fault m ts (length room)) _ g.number g.place f (sym (ap counted_as e) ∙ h)
 
-    pub counts_number : (n : ℕ) → x ≡ Counted·.Counts n → n ≡ task_count ts
+    pub counts_number : (n : ℕ) → x ≡ Ok n → n ≡ task_count ts
     unfolding counts_answer
     counts_number n e = ap (λ l. get_or l 0 0)
         (values_are (counts_fault m ts (length room)) (task_count ts ∷ []) (n ∷ []) (sym (ap counted_as e) ∙ h))
@@ -89,27 +84,27 @@ module _ (m : ℕ) (ts room : List ℕ) (f : (counts_fault m ts (length room)).n
         record { laid = rw counts_are at q.laid; short = omega (arith, q.short) }
 
 -- ---- the running set
-module _ (c : Case) (s : ℕ) (ok : Accepted c) (x : Running) (h : running_as x ≡ running_answer c s) (old new : List ℕ) (k : ℕ) where
-  pub slot_no : (n p : ℕ) → x ≡ Running·.Refused n p → Printed line_room (refused_line n p) old new k
+module _ (c : Case) (s : ℕ) (ok : Accepted c) (x : Result ℕ Fault) (h : running_as x ≡ running_answer c s) (old new : List ℕ) (k : ℕ) where
+  pub slot_no : (g : Fault) → x ≡ Err g → Printed line_room (refused_line g.number g.place) old new k
       → Printed print_room (slot_text c s) old new k
-  slot_no n p e q =
-      let l : refused_line n p ≡ slot_text c s = slot_refused c s ok n p (sym (ap running_as e) ∙ h) in
+  slot_no g e q =
+      let l : refused_line g.number g.place ≡ slot_text c s = slot_refused c s ok g.number g.place (sym (ap running_as e) ∙ h) in
       rw l at (line_fits q)
 
-  pub slot_yes : (set : ℕ) → x ≡ Running·.Ran set → Printed line_room (running_line s set) old new k
+  pub slot_yes : (set : ℕ) → x ≡ Ok set → Printed line_room (running_line s set) old new k
       → Printed print_room (slot_text c s) old new k
   slot_yes set e q =
       let l : running_line s set ≡ slot_text c s = slot_ran c s ok set (sym (ap running_as e) ∙ h) in
       rw l at (line_fits q)
 
 -- ---- the writer
-module _ (c : Case) (old : List ℕ) (ok : Accepted c) (room : print_room ≤ length old) (x : Written)
+module _ (c : Case) (old : List ℕ) (ok : Accepted c) (room : print_room ≤ length old) (x : Result ℕ Fault)
     (h : written_as x ≡ write_answer c old) where
-  pub write_accepts : (n p : ℕ) → x ≡ Written·.Refused n p → ⊥
+  pub write_accepts : (g : Fault) → x ≡ Err g → ⊥
   unfolding write_answer
-  write_accepts n p e = never_refused (write_fault c (length old)) _ n p (write_fits c (length old) ok room) (sym (ap written_as e) ∙ h)
+  write_accepts g e = never_refused (write_fault c (length old)) _ g.number g.place (write_fits c (length old) ok room) (sym (ap written_as e) ∙ h)
 
-  pub text_shown : (k : ℕ) → x ≡ Written·.Text k → (new : List ℕ) → new ≡ write_bytes c old
+  pub text_shown : (k : ℕ) → x ≡ Ok k → (new : List ℕ) → new ≡ write_bytes c old
       → Printed print_room (case_text c) old new k
   unfolding write_answer write_bytes
   text_shown k e new o =

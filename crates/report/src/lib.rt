@@ -3,15 +3,16 @@
 
 ghost use Rattle.std.specs.Prelude.{◌≡◌, ℕ, ◌+◌, ◌*◌, ◌≤◌, ◌<◌, length};
 ghost use Rattle.rules.specs.Limits.{max_tasks};
-ghost use Rattle.rules.specs.Case.{case_of, release_count};
-ghost use Rattle.rules.specs.Refusals.{counts_fault, Accepted};
+ghost use Rattle.rules.specs.Case.{release_count};
+ghost use Rattle.rules.specs.Refusals.{counts_fault};
 ghost use Rattle.rules.specs.Writer.{case_text};
 ghost use Rattle.rules.specs.Report.{report};
 ghost use Rattle.prints.specs.Lines.{line_room, job_room, Printed};
 ghost use Rattle.report.specs.Cases.{job_text, count_text, counts_text, slot_text, print_room, Listed, Stands};
 
+use cases::AcceptedCase;
 use prints::{put_count, put_job, put_refused, put_run, put_total};
-use rules::{Counted, MAX_RELEASES, MAX_TASKS, RECORD_WIDTH, Replayed, Running, Written};
+use rules::{MAX_RELEASES, MAX_TASKS, RECORD_WIDTH};
 use sets::put_running;
 
 // Room for the records of as many releases as a case may have.
@@ -41,41 +42,29 @@ fn put_jobs(out: &mut [u8], at: usize, table: &[u32], trace: &[u32], records: &[
     ensures { Listed (job_text table.now trace.now records.now) job_room at
         (release_count trace.now) out.old out.new result }
 {
-    let n = cases::release_count(trace);
     let mut end = at;
-    let mut j: usize = 0;
-    while j < n {
+    for j in 0..cases::release_count(trace) {
         let length = put_release(&mut out[end..], table, trace, records, j);
-        end = end + length;
-        j += 1;
+        end += length;
     }
     end
 }
 
 // Writes what the replay of a case says: its run line, its job lines and its total line.
-pub fn put_report(
-    out: &mut [u8],
-    procs: u32,
-    policy: u32,
-    table: &[u32],
-    end: u32,
-    trace: &[u32],
-) -> usize
-    requires print_room_in_bounds { print_room ≤ length out.old }
-    requires accepted { Accepted (case_of procs policy table.now end trace.now) }
-    ensures { Printed print_room (report (case_of procs policy table.now end trace.now)) out.old
-        out.new result }
+pub fn put_report(out: &mut [u8], accepted: &AcceptedCase) -> usize
+    requires { print_room ≤ length out.old }
+    ensures { Printed print_room (report accepted.now) out.old out.new result }
 {
+    let case = &accepted.case;
     let mut records = [0u32; RECORDS_ROOM];
-    let replayed = engine::replay(procs, policy, table, end, trace, &mut records);
-    match replayed {
-        Replayed::Refused { number, place } => put_refused(out, number, place),
-        Replayed::Judged { met, missed, open } => {
-            let tasks = cases::task_count(table) as u32;
-            let releases = cases::release_count(trace) as u32;
-            let at = put_run(out, policy, procs, tasks, end);
-            let last = put_jobs(out, at, table, trace, &records);
-            let length = put_total(&mut out[last..], releases, met, missed, open);
+    match engine::replay(case.again(), &mut records) {
+        Err(fault) => put_refused(out, fault),
+        Ok(totals) => {
+            let tasks = cases::task_count(case.table) as u32;
+            let releases = cases::release_count(case.trace) as u32;
+            let at = put_run(out, case.policy, case.procs, tasks, case.end);
+            let last = put_jobs(out, at, case.table, case.trace, &records);
+            let length = put_total(&mut out[last..], releases, totals);
             last + length
         }
     }
@@ -89,11 +78,9 @@ fn put_count_lines(out: &mut [u8], free: &[u32], n: usize) -> usize
     ensures { Listed (count_text free.now) line_room 0 n out.old out.new result }
 {
     let mut end: usize = 0;
-    let mut i: usize = 0;
-    while i < n {
+    for i in 0..n {
         let length = put_count(&mut out[end..], i as u32 + 1, free[i]);
-        end = end + length;
-        i += 1;
+        end += length;
     }
     end
 }
@@ -105,52 +92,30 @@ pub fn put_free_counts(out: &mut [u8], procs: u32, table: &[u32]) -> usize
     ensures { Printed print_room (counts_text procs table.now) out.old out.new result }
 {
     let mut free = [0u32; MAX_TASKS];
-    let counted = counts::counts(procs, table, &mut free);
-    match counted {
-        Counted::Refused { number, place } => put_refused(out, number, place),
-        Counted::Counts { tasks } => put_count_lines(out, &free, tasks),
+    match counts::counts(procs, table, &mut free) {
+        Err(fault) => put_refused(out, fault),
+        Ok(tasks) => put_count_lines(out, &free, tasks),
     }
 }
 
 // Writes which tasks run in a slot.
-pub fn put_slot(
-    out: &mut [u8],
-    procs: u32,
-    policy: u32,
-    table: &[u32],
-    end: u32,
-    trace: &[u32],
-    slot: u32,
-) -> usize
-    requires print_room_in_bounds { print_room ≤ length out.old }
-    requires accepted { Accepted (case_of procs policy table.now end trace.now) }
-    ensures { Printed print_room (slot_text (case_of procs policy table.now end trace.now) slot)
-        out.old out.new result }
+pub fn put_slot(out: &mut [u8], accepted: &AcceptedCase, slot: u32) -> usize
+    requires { print_room ≤ length out.old }
+    ensures { Printed print_room (slot_text accepted.now slot) out.old out.new result }
 {
-    let ran = engine::running(procs, policy, table, end, trace, slot);
-    match ran {
-        Running::Refused { number, place } => put_refused(out, number, place),
-        Running::Ran { set } => put_running(out, slot, set),
+    match engine::running(accepted.case.again(), slot) {
+        Err(fault) => put_refused(out, fault),
+        Ok(set) => put_running(out, slot, set),
     }
 }
 
 // Writes the text of a case.
-pub fn put_text(
-    out: &mut [u8],
-    procs: u32,
-    policy: u32,
-    table: &[u32],
-    end: u32,
-    trace: &[u32],
-) -> usize
-    requires print_room_in_bounds { print_room ≤ length out.old }
-    requires accepted { Accepted (case_of procs policy table.now end trace.now) }
-    ensures { Printed print_room (case_text (case_of procs policy table.now end trace.now)) out.old
-        out.new result }
+pub fn put_text(out: &mut [u8], accepted: &AcceptedCase) -> usize
+    requires { print_room ≤ length out.old }
+    ensures { Printed print_room (case_text accepted.now) out.old out.new result }
 {
-    let written = writer::write(procs, policy, table, end, trace, out);
-    match written {
-        Written::Refused { number, place } => put_refused(out, number, place),
-        Written::Text { length } => length,
+    match writer::write(&accepted.case, out) {
+        Err(fault) => put_refused(out, fault),
+        Ok(length) => length,
     }
 }

@@ -4,9 +4,31 @@
 
 ghost use Rattle.std.specs.Prelude.{[]};
 ghost use Rattle.rules.specs.Case.{case_of};
-ghost use Rattle.rules.specs.Told.{seen, CountsTold, ReplayTold, RunningTold, ReadTold, WriteTold, ConvertTold, LogTold};
+ghost use Rattle.rules.specs.Answers.{answer_as};
+ghost use Rattle.rules.specs.Told.{Told, seen, CountsTold, ReplayTold, RunningTold, ReadTold, WriteTold, ConvertTold, LogTold};
 
-use rules::{Counted, Logged, Replayed, Running, Taken, Written};
+use cases::Case;
+use rules::Fault;
+
+// Tells an answer: its results, or the number and the place of its refusal.
+fn tell<const N: usize>(
+    answer: Result<[usize; N], Fault>,
+    results: &mut [usize; N],
+    place: &mut u32,
+) -> u32
+    ensures { Told (answer_as (λ values. values) answer) (seen result place.old place.new results.old results.new) }
+{
+    match answer {
+        Ok(values) => {
+            *results = values;
+            0
+        }
+        Err(fault) => {
+            *place = fault.place;
+            fault.number
+        }
+    }
+}
 
 // The contention-free counts of a table. The result: how many tasks.
 #[unsafe(no_mangle)]
@@ -21,16 +43,7 @@ pub extern "C" fn thrumcomb_counts(
         (seen result place.old place.new results.old results.new) }
 {
     let answer = counts::counts(procs, table, out);
-    match answer {
-        Counted::Refused { number, place: at } => {
-            *place = at;
-            number
-        }
-        Counted::Counts { tasks } => {
-            *results = [tasks];
-            0
-        }
-    }
+    tell(answer.map(|tasks| [tasks]), results, place)
 }
 
 // The replay of a case. The results: the totals of met, missed and open.
@@ -48,17 +61,16 @@ pub extern "C" fn thrumcomb_replay(
     ensures { ReplayTold (case_of procs policy table.now end trace.now) out.old out.new
         (seen result place.old place.new results.old results.new) }
 {
-    let answer = engine::replay(procs, policy, table, end, trace, out);
-    match answer {
-        Replayed::Refused { number, place: at } => {
-            *place = at;
-            number
-        }
-        Replayed::Judged { met, missed, open } => {
-            *results = [met as usize, missed as usize, open as usize];
-            0
-        }
-    }
+    let case = Case {
+        procs,
+        policy,
+        table,
+        end,
+        trace,
+    };
+    let answer = engine::replay(case, out);
+    let told = answer.map(|t| [t.met as usize, t.missed as usize, t.open as usize]);
+    tell(told, results, place)
 }
 
 // The running set of a named slot. The result: the set.
@@ -76,17 +88,15 @@ pub extern "C" fn thrumcomb_running_set(
     ensures { RunningTold (case_of procs policy table.now end trace.now) slot (seen result place.old
         place.new results.old results.new) }
 {
-    let answer = engine::running(procs, policy, table, end, trace, slot);
-    match answer {
-        Running::Refused { number, place: at } => {
-            *place = at;
-            number
-        }
-        Running::Ran { set } => {
-            *results = [set as usize];
-            0
-        }
-    }
+    let case = Case {
+        procs,
+        policy,
+        table,
+        end,
+        trace,
+    };
+    let answer = engine::running(case, slot);
+    tell(answer.map(|set| [set as usize]), results, place)
 }
 
 // The reader of a case text. The results: processors, policy, end, how many tasks and releases.
@@ -102,22 +112,14 @@ pub extern "C" fn thrumcomb_read(
         (seen result place.old place.new results.old results.new) }
 {
     let answer = reader::read(text, tasks, releases);
-    match answer {
-        Taken::Refused { number, place: at } => {
-            *place = at;
-            number
-        }
-        Taken::Read {
-            procs,
-            policy,
-            end,
-            tasks: rows,
-            releases: jobs,
-        } => {
-            *results = [procs as usize, policy as usize, end as usize, rows, jobs];
-            0
-        }
-    }
+    let told = answer.map(|t| [
+        t.procs as usize,
+        t.policy as usize,
+        t.end as usize,
+        t.tasks,
+        t.releases,
+    ]);
+    tell(told, results, place)
 }
 
 // The writer of a case text. The result: the text's length.
@@ -135,17 +137,15 @@ pub extern "C" fn thrumcomb_write(
     ensures { WriteTold (case_of procs policy table.now end trace.now) out.old out.new
         (seen result place.old place.new results.old results.new) }
 {
-    let answer = writer::write(procs, policy, table, end, trace, out);
-    match answer {
-        Written::Refused { number, place: at } => {
-            *place = at;
-            number
-        }
-        Written::Text { length } => {
-            *results = [length];
-            0
-        }
-    }
+    let case = Case {
+        procs,
+        policy,
+        table,
+        end,
+        trace,
+    };
+    let answer = writer::write(&case, out);
+    tell(answer.map(|length| [length]), results, place)
 }
 
 // The converter of a text without a policy line. The result: the new text's length.
@@ -160,19 +160,7 @@ pub extern "C" fn thrumcomb_convert(
         (seen result place.old place.new results.old results.new) }
 {
     let answer = converter::convert(text, out);
-    match answer {
-        Written::Refused {
-            number: refusal,
-            place: at,
-        } => {
-            *place = at;
-            refusal
-        }
-        Written::Text { length: bytes } => {
-            *results = [bytes];
-            0
-        }
-    }
+    tell(answer.map(|bytes| [bytes]), results, place)
 }
 
 // The check of a slot log. There is no result: 0 says that the log is accepted.
@@ -189,12 +177,13 @@ pub extern "C" fn thrumcomb_check_log(
     ensures { LogTold (case_of procs policy table.now end trace.now) log.now
         (seen result place.old place.new [] []) }
 {
-    let answer = follow::check_log(procs, policy, table, end, trace, log);
-    match answer {
-        Logged::Refused { number, place: at } => {
-            *place = at;
-            number
-        }
-        Logged::Accepted => 0,
-    }
+    let case = Case {
+        procs,
+        policy,
+        table,
+        end,
+        trace,
+    };
+    let answer = follow::check_log(case, log);
+    tell(answer.map(|()| []), &mut [], place)
 }

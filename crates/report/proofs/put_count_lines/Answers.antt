@@ -8,14 +8,13 @@ use Rattle.report.proofs.Lines.{listed_none, listed_more}
 use Rattle.report.proofs.put_count_lines.Goals as goal
 
 pub loop-i-init : goal.loop-i-init
-loop-i-init c = (omega arith, listed_none _ _ _ _)
+loop-i-init c = listed_none _ _ _ _
 
 pub loop-i-preserved : goal.loop-i-preserved
 loop-i-preserved c =
     -- one more line has room
     let room : c.loop-i.end + line_room ≤ length c.loop-i.out = let l = c.loop-i in
-    omega (arith, l.invariant.1.short, laid_length l.invariant.1.laid, c.loop-i-test.true) in
-    let loop-test = c.loop-i-test in
+    omega (arith, l.invariant.short, laid_length l.invariant.laid, c.loop-i-test.true) in
     let l = c.loop-i in
     let h : l.end ≤ length l.out = omega (arith, room) in
-    (omega (arith, loop-test.true), listed_more _ _ _ _ _ _ _ _ _ l.invariant.1 h c.put_count-length.ensures)
+    listed_more _ _ _ _ _ _ _ _ _ l.invariant h c.put_count-length.ensures

@@ -5,7 +5,4 @@ use Rattle.report.specs.Cases.{count_text, Listed}
 use Rattle.report.proofs.put_count_lines.Given as goal
 
 abbrev pub invariant-loop-i : goal.invariant-loop-i
-invariant-loop-i l = (l.i ≤ l.n) × Listed (count_text l.free) line_room 0 l.i l.initial.out l.out l.end
-
-abbrev pub decreases-loop-i : goal.decreases-loop-i
-decreases-loop-i l = l.n - l.i
+invariant-loop-i l = Listed (count_text l.free) line_room 0 l.i l.initial.out l.out l.end

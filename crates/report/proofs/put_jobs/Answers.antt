@@ -8,15 +8,14 @@ use Rattle.report.proofs.Lines.{listed_none, listed_more}
 use Rattle.report.proofs.put_jobs.Goals as goal
 
 pub loop-j-init : goal.loop-j-init
-loop-j-init c = (omega arith, listed_none _ _ _ _)
+loop-j-init c = listed_none _ _ _ _
 
 pub loop-j-preserved : goal.loop-j-preserved
 loop-j-preserved c =
     -- one more line has room
     let room : c.loop-j.end + job_room ≤ length c.loop-j.out = let l = c.loop-j in
-    omega (arith, l.invariant.1.short, laid_length l.invariant.1.laid, c.loop-j-test.true, c.release_count-n.ensures) in
+    omega (arith, l.invariant.short, laid_length l.invariant.laid, c.loop-j-test.true, c.release_count-j-end.ensures) in
     let l = c.loop-j in
     let h : l.end ≤ length l.out = omega (arith, room) in
     let put = c.put_release-length.ensures in
-    let count = c.release_count-n.ensures in
-    (omega (arith, c.loop-j-test.true, count), listed_more _ _ _ _ _ _ _ _ _ l.invariant.1 h put)
+    listed_more _ _ _ _ _ _ _ _ _ l.invariant h put

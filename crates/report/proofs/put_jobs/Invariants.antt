@@ -6,8 +6,4 @@ use Rattle.report.specs.Cases.{job_text, Listed}
 use Rattle.report.proofs.put_jobs.Given as goal
 
 abbrev pub invariant-loop-j : goal.invariant-loop-j
-invariant-loop-j l = (l.j ≤ release_count l.trace)
-    × Listed (job_text l.table l.trace l.records) job_room l.at l.j l.initial.out l.out l.end
-
-abbrev pub decreases-loop-j : goal.decreases-loop-j
-decreases-loop-j l = l.n - l.j
+invariant-loop-j l = Listed (job_text l.table l.trace l.records) job_room l.at l.j l.initial.out l.out l.end
