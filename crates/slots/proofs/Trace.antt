@@ -26,17 +26,17 @@ place_old : (rs : List ℕ) (k name : ℕ) → (name_of rs k ≡ name → ⊥) �
 unfolding last_place
 place_old rs k name h = rw (ne_eqb (name_of rs k) name h)
 
-pub keeping_more : (rs : List ℕ) (next k v : ℕ) (place : List ℕ)
-    → Orderly rs → next ≤ release_count rs → k < next → v ≡ name_of rs k - 1
-    → Keeping rs next k place → Keeping rs next (k + 1) (set place v k)
-keeping_more rs next k v place u few h z w =
+pub keeping_more : (rs : List ℕ) (next k name : ℕ) (place : List ℕ)
+    → Orderly rs → next ≤ release_count rs → k < next → name ≡ name_of rs k
+    → Keeping rs next k place → Keeping rs next (k + 1) (set place (name - 1) k)
+keeping_more rs next k name place u few h e w =
     let n = u.named k (omega arith) in
-    let name : name_of rs k ≡ suc v = omega arith in
-    let small : v < max_tasks = omega arith in
+    let is : name_of rs k ≡ suc (name - 1) = omega arith in
+    let small : name - 1 < max_tasks = omega arith in
     rw (add-one k) (record {
       within = omega arith;
-      at_place = rw w.at_place (rw (place_new rs k (suc v) name) at
-          (tab-set (λ i. last_place rs k (suc i)) (λ i. last_place rs (suc k) (suc i)) max_tasks v small
+      at_place = rw w.at_place (rw (place_new rs k (suc (name - 1)) is) at
+          (tab-set (λ i. last_place rs k (suc i)) (λ i. last_place rs (suc k) (suc i)) max_tasks (name - 1) small
           (λ i l q. sym (place_old rs k (suc i) (λ x. q (omega arith))))));
     })
 

@@ -3,8 +3,7 @@
 
 ghost use Rattle.std.specs.Prelude.{◌≡◌, true, suc, ◌≤◌};
 ghost use Rattle.rules.specs.Limits.{max_releases};
-ghost use Rattle.rules.specs.Case.{case_of, release_count};
-ghost use Rattle.rules.specs.Refusals.{Accepted};
+ghost use Rattle.rules.specs.Case.{release_count};
 ghost use Rattle.rules.specs.Replay.{fresh};
 ghost use Rattle.legal.specs.Passing.{Procs, Sound};
 ghost use Rattle.counts.specs.Needs.{Counts};
@@ -12,11 +11,13 @@ ghost use Rattle.bridge.specs.Turn.{Reached};
 ghost use Rattle.traces.specs.Traces.{Orderly, releases};
 ghost use Rattle.slots.specs.Walks.{places, Rests, room_at, LastRan};
 
+use cases::AcceptedCase;
 use rules::{MAX_TASKS, Run};
 
 // ---- the trace
 
 // The place of each task's last release, kept on over the releases from one place to another.
+#[tactic(auto, using(crate::proofs::Trace::keeping_more, crate::proofs::Trace::keeping_done))]
 fn keep_places(trace: &[u32], from: usize, next: usize, place: &mut [u16; MAX_TASKS])
     requires orderly { Orderly trace.now }
     requires from_le_next { from ≤ next }
@@ -25,11 +26,9 @@ fn keep_places(trace: &[u32], from: usize, next: usize, place: &mut [u16; MAX_TA
     requires place_value { place.old ≡ places trace.now from }
     ensures { place.new ≡ places trace.now next }
 {
-    let mut k = from;
-    while k < next {
+    for k in from..next {
         let i = cases::name_of(trace, k) as usize - 1;
         place[i] = k as u16;
-        k += 1;
     }
 }
 
@@ -57,10 +56,7 @@ fn pass_releases(
 fn rests(trace: &[u32], next: usize, jobs: usize, clock: u32) -> bool
     ensures { result ≡ true → Rests trace.now next jobs clock }
 {
-    if jobs == 0 {
-        return !traces::is_due(trace, next, clock);
-    }
-    false
+    jobs == 0 && !traces::is_due(trace, next, clock)
 }
 
 // ---- the slots of a case
@@ -77,15 +73,11 @@ fn start(procs: u32, table: &[u32], counts: &mut [u32; MAX_TASKS]) -> Run
     let mut s = Run {
         tasks: [none; MAX_TASKS],
     };
-    let mut i: usize = 0;
-    let mut number: u32 = 1;
-    while i < MAX_TASKS {
+    for i in 0..MAX_TASKS {
         if i < tasks {
             counts[i] = counts::free_count(procs, table, i);
         }
-        s.tasks[i] = slot::idle_task(number);
-        number += 1;
-        i += 1;
+        s.tasks[i] = slot::idle_task(i as u32 + 1);
     }
     s
 }
@@ -94,32 +86,24 @@ fn start(procs: u32, table: &[u32], counts: &mut [u32; MAX_TASKS]) -> Run
 // It calls the parts of a slot itself, and each puts the run where it was: a function for the slot as a whole would hold it once more
 // between its parts, on the stack. `late` has the tasks whose job step 1 removes as missed, in this slot and then in the next; `bound` is
 // what the choice found last, from which it goes on.
-pub fn walk(
-    procs: u32,
-    policy: u32,
-    table: &[u32],
-    end: u32,
-    trace: &[u32],
-    until: u32,
-    noting: bool,
-    out: &mut [u32],
-) -> [bool; MAX_TASKS]
-    requires accepted { Accepted (case_of procs policy table.now end trace.now) }
-    requires until_le_end { until ≤ end }
-    requires out_value { noting ≡ true → out.old ≡ room_at (case_of procs policy table.now end trace.now) 0 out.old }
-    ensures { LastRan (case_of procs policy table.now end trace.now) until result
-        × (noting ≡ true → out.new
-        ≡ room_at (case_of procs policy table.now end trace.now) until out.old) }
+pub fn walk(accepted: &AcceptedCase, until: u32, noting: bool, out: &mut [u32]) -> [bool; MAX_TASKS]
+    requires until_le_end { until ≤ accepted.now.end }
+    requires out_value { noting ≡ true → out.old ≡ room_at accepted.now 0 out.old }
+    ensures { LastRan accepted.now until result × (noting ≡ true → out.new ≡ room_at accepted.now until out.old) }
 {
-    let mut counts: [u32; MAX_TASKS] = [0; MAX_TASKS];
+    let case = &accepted.case;
+    let procs = case.procs;
+    let policy = case.policy;
+    let table = case.table;
+    let trace = case.trace;
+    let mut counts = [0; MAX_TASKS];
     let mut run = start(procs, table, &mut counts);
-    let mut place: [u16; MAX_TASKS] = [0; MAX_TASKS];
-    let mut next: usize = 0;
-    let mut jobs: usize = 0;
-    let mut bound: u64 = 0;
+    let mut place = [0; MAX_TASKS];
+    let mut next = 0;
+    let mut jobs = 0;
+    let mut bound = 0;
     let mut ran = [false; MAX_TASKS];
-    let mut clock: u32 = 0;
-    while clock < until {
+    for clock in 0..until {
         if rests(trace, next, jobs, clock) {
             ran = [false; MAX_TASKS];
         } else {
@@ -147,7 +131,6 @@ pub fn walk(
                 notes::note_slot(out, &place, &done, &demoted, &late, clock);
             }
         }
-        clock += 1;
     }
     ran
 }

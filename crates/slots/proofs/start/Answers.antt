@@ -1,5 +1,6 @@
 -- `slots::start` meets its contract: the records are those of `slot::fresh_run`, and beside them each count is written once.
 use native.Mathlib.Omega.{arith}
+use native.Mathlib.Numerals.{add-one}
 use mathlib.Core.Path.{refl, sym, ◌∙◌}
 use Rattle.rules.specs.Words.{tab}
 use Rattle.rules.specs.Limits.{max_tasks}
@@ -15,7 +16,6 @@ pub loop-i-init : goal.loop-i-init
 unfolding tab
 loop-i-init c = (
   filling_none max_tasks _ _ refl (tab_long idle_task 0 max_tasks),
-  refl,
   record { long = refl; each = λ k h m. absurd (omega arith) },
 )
 
@@ -24,10 +24,9 @@ loop-i-preserved c =
     let k = c.loop-i-test.true in
     let v = c.loop-i.invariant in (
       filling_store max_tasks _ _ _ _ no_task _ k v.0
-          (c.idle_task.ensures _ v.1 ∙ sym (tab_at idle_task max_tasks _ no_task k)),
-      omega arith,
+          (c.idle_task.ensures _ (add-one _) ∙ sym (tab_at idle_task max_tasks _ no_task k)),
       elim c.if-i-tasks.branch [
-        | then-i-tasks w ↦ rw w.counts-is (counting_store _ _ _ _ v.2 _ k w.free_count.ensures)
-        | else-i-tasks w ↦ rw w.counts-is (counting_past _ _ _ _ v.2 (omega arith))
+        | then-i-tasks w ↦ rw w.counts-is (counting_store _ _ _ _ v.1 _ k w.free_count.ensures)
+        | else-i-tasks w ↦ rw w.counts-is (counting_past _ _ _ _ v.1 (omega arith))
       ],
     )

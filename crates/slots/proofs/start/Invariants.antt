@@ -1,6 +1,4 @@
 -- `slots::start` meets its contract: the records are those of `slot::fresh_run`, and beside them each count is written once.
-use mathlib.Core.Path.{◌≡◌}
-use Prim.Native.Nat.{suc, ◌-◌}
 use Rattle.rules.specs.Words.{tab}
 use Rattle.rules.specs.Limits.{max_tasks}
 use Rattle.rules.specs.Replay.{idle_task}
@@ -10,8 +8,4 @@ use Rattle.slots.proofs.start.Given as goal
 
 abbrev pub invariant-loop-i : goal.invariant-loop-i
 invariant-loop-i l =
-    Filling max_tasks (tab idle_task 0 max_tasks) l.initial.s.tasks l.s.tasks l.i × (l.number ≡ suc l.i)
-    × Counting l.procs l.table l.counts l.i
-
-abbrev pub decreases-loop-i : goal.decreases-loop-i
-decreases-loop-i l = max_tasks - l.i
+    Filling max_tasks (tab idle_task 0 max_tasks) l.initial.s.tasks l.s.tasks l.i × Counting l.procs l.table l.counts l.i

@@ -1,13 +1,7 @@
 -- `slots::walk` meets its contract: each slot goes on from the one before it, and a slot that rests is passed over.
-use Prim.Native.Nat.{◌-◌}
-use Rattle.rules.specs.Case.{case_of}
 use Rattle.slots.proofs.Going.{Going}
 use Rattle.slots.proofs.walk.Given as goal
 
 abbrev pub invariant-loop-clock : goal.invariant-loop-clock
 invariant-loop-clock l =
-    Going (case_of l.procs l.policy l.table l.end l.trace) l.until l.noting l.initial.out l.clock l.run l.place l.next l.jobs l.ran l.out
-
-abbrev pub decreases-loop-clock : goal.decreases-loop-clock
-decreases-loop-clock l =
-    l.until - l.clock
+    Going l.accepted l.until l.noting l.initial.out l.clock l.run l.place l.next l.jobs l.ran l.out
