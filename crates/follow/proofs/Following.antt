@@ -1,16 +1,17 @@
 -- How the state of the check goes on: what a line at its end says of the fault, the run and the releases, and that the bytes of a line and
 -- its newline bring the state to what stands for the next fed state.
 use mathlib.Core.Path.{◌≡◌, refl, sym, ap, ◌∙◌}
-use mathlib.Core.Bool.{Bool, true, false, ◌&&◌, ◌||◌, not, false≢true, true≢false}
+use mathlib.Core.Bool.{Bool, true, false, ◌&&◌, not, false≢true, true≢false}
 use mathlib.Core.List.{List, [], ◌∷◌, ◌++◌}
 use Prim.Native.Nat.{ℕ, zero, suc, ◌+◌, ◌≤◌, ◌<◌}
 use native.Mathlib.Numerals.{add-one}
 use native.Mathlib.Decide.{dec_lt}
 use native.Mathlib.Omega.{arith}
 use lib.Dec.{eqb, ltb}
+use Rattle.std.specs.Prelude.{Err}
 use lib.ListN.{length, get_or, take, drop, take-append-drop, length-drop}
 use lib.Seq.{take-suc, take_all, take-add, get_or-drop}
-use borrow.Author.Tests.{eq-eqb, ne_eqb, eqb-true, eqb-false, le-leb, lt-leb, lt-ltb, ltb-true}
+use borrow.Author.Tests.{eq-eqb, ne_eqb, eqb-true, le-leb, lt-leb, lt-ltb, ltb-true}
 use Rattle.rules.specs.declared.Fault.{Fault}
 use Rattle.rules.specs.declared.Run.{Run}
 use Rattle.rules.specs.Words.{pick, tab}
@@ -18,15 +19,15 @@ use Rattle.rules.specs.Limits.{max_tasks}
 use Rattle.rules.specs.Case.{Case, release_count}
 use Rattle.rules.specs.Slot.{Setup, TaskSet, job_at, jobs_now, demoted, lowered, opened, worked}
 use Rattle.rules.specs.Replay.{setup_in, released_at, idle_task, fresh}
-use Rattle.rules.specs.Refusals.{no_fault, fault_of, unless, or_next, first_of, case_fault, Accepted}
+use Rattle.rules.specs.Refusals.{no_fault, fault_of, unless_fault, unless, or_next, first_of, case_fault, Accepted}
 use Rattle.rules.specs.Answers.{Answer, refusal, result, settled}
 use Rattle.rules.specs.Text.{newline_byte, up_to, has}
 use Rattle.rules.specs.Log.{LogLine, keeps_rule, log_lines, line_fault, lines_fault_in, log_fault, log_answer}
 use Rattle.lists.specs.Lists.{tab_long, members}
-use Rattle.lists.specs.Tests.{and_left, and_right, or_left, or_right}
+use Rattle.lists.specs.Tests.{and_left, and_right}
 use Rattle.legal.specs.Legal.{legal}
-use Rattle.legal.specs.Firsts.{next_none, next_clear, stop}
-use Rattle.legal.specs.Settled.{refuses}
+use Rattle.legal.specs.Firsts.{next_none, next_clear, given_fault, checked_stop}
+use Rattle.legal.specs.Settled.{refuses_with}
 use Rattle.texts.specs.Passing.{next_last}
 use Rattle.texts.specs.Fields.{up_to_without, up_to-take, up_to_short, up_to_stop}
 use Rattle.bridge.specs.Steps.{Full, demoted_full, readied_full, lowered_full, worked_full}
@@ -81,13 +82,12 @@ set_formed n (Ended·.Slot t rises names) ys h = refl
 -- ---- one slot
 -- a run of which steps 1 and 3 change no job, where no release is due, is open already
 pub opens_calm : (c : Case) → Accepted c → (t : ℕ) (r : Run) (next jobs : ℕ) (calm : Bool) → Full r → Reached c.trace next t
-    → Ahead c.policy t r jobs calm → (not calm || due c.trace next t) ≡ false → Opens (setup_in c) c.trace t r r next jobs
-opens_calm c ok t r next jobs calm full w a e =
-    let none : due c.trace next t ≡ false = or_right (not calm) _ e in
+    → Ahead c.policy t r jobs calm → calm ≡ true → due c.trace next t ≡ false → Opens (setup_in c) c.trace t r r next jobs
+opens_calm c ok t r next jobs calm full w a e none =
     let o = orderly c (legal c ok) in
     record {
       run = sym (calm_settled (setup_in c) t (released_at c t) r full (λ i l. none_now c.trace o next t w none i)
-          (a.stays (not_left calm (or_left (not calm) _ e))));
+          (a.stays e));
       reached = reached_next c.trace o next t w none;
       counted = a.jobs;
     }
@@ -309,21 +309,14 @@ module _ (c : Case) (r : Run) (xs : List Bool) (scan : Scan) (lines next jobs : 
       → Follows c (feed c f l) (log_of r ys s lines next jobs calm number)
   step_within l s ys h long e f w = rw none (line_within c f r xs scan lines next jobs calm (rw none at w) l s ys h long e)
 
-  pub step_line : (s : Run) (ys : List Bool) (next' jobs' : ℕ) (calm' : Bool) (number' b : ℕ) → b ≡ newline_byte
-      → Closed c lines (scan_as scan xs) r s ys next' jobs' calm' number'
-      → (sc : Scan) (ln : ℕ) → sc ≡ pick (eqb number' 0) start_of scan → ln ≡ pick (eqb number' 0) (lines + 1) lines
-      → (f : Feed) → Follows c f (log_of r xs scan lines next jobs calm number)
-      → Follows c (feed_byte c f b) (log_of s ys sc ln next' jobs' calm' number')
-  step_line s ys next' jobs' calm' number' b e k sc ln p q f w = rw (p, q) (go (eqb number' 0) refl)
-    where
-      go : (t : Bool) → eqb number' 0 ≡ t
-          → Follows c (feed_byte c f b) (log_of s ys (pick t start_of scan) (pick t (lines + 1) lines) next' jobs' calm' number')
-      go true z =
-          line_over c f r xs scan lines next jobs calm (rw none at w) s ys next' jobs' calm' number' b e k
-          (eqb-true number' 0 z)
-      go false z =
-          line_stopped c f r xs scan lines next jobs calm (rw none at w) s ys next' jobs' calm' number' b e k
-          (eqb-false number' 0 z)
+  module _ (s : Run) (ys : List Bool) (next' jobs' : ℕ) (calm' : Bool) (number' b : ℕ) (e : b ≡ newline_byte)
+      (k : Closed c lines (scan_as scan xs) r s ys next' jobs' calm' number') (f : Feed)
+      (w : Follows c f (log_of r xs scan lines next jobs calm number)) where
+    pub step_over : number' ≡ 0 → Follows c (feed_byte c f b) (log_of s ys start_of (lines + 1) next' jobs' calm' number')
+    step_over = line_over c f r xs scan lines next jobs calm (rw none at w) s ys next' jobs' calm' number' b e k
+
+    pub step_stopped : (number' ≡ 0 → ⊥) → Follows c (feed_byte c f b) (log_of s ys scan lines next' jobs' calm' number')
+    step_stopped = line_stopped c f r xs scan lines next jobs calm (rw none at w) s ys next' jobs' calm' number' b e k
 
   -- what the code that goes on asks for
   pub asks : Followed c (log_of r xs scan lines next jobs calm number) → (length xs ≡ max_tasks) × LineSmall (scan_as scan xs)
@@ -392,21 +385,6 @@ feeding_stopped c piece first d i bad w f v =
     let e : feed c (feed c f (take i piece)) (drop i piece) ≡ feed c f piece =
     sym (feed-append c f (take i piece) (drop i piece)) ∙ ap (feed c f) (take-append-drop i piece) in
     rw e at (stays_all c d (drop i piece) (feed c f (take i piece)) (w f v) bad)
-
--- the loop is over: no byte is left, or something is at fault
-pub feeding_over : (c : Case) (piece : List ℕ) (first d : Log) (i : ℕ) → (ltb i (length piece) && eqb d.number 0) ≡ false
-    → Feeding c piece first i d → (f : Feed) → Follows c f first → Follows c (feed c f piece) d
-feeding_over c piece first d i e w f v = go (dec_lt i (length piece))
-  where
-    go : Dec (i < length piece) → Follows c (feed c f piece) d
-    go (no l) = feeding_all c piece first d i (omega arith) w f v
-    go (yes l) =
-        feeding_stopped c piece first d i
-        (λ z. true≢false (rw (lt-ltb i (length piece) l, eq-eqb d.number 0 z) at e)) w f v
-
--- the loop goes on
-pub goes_more : (i n number : ℕ) → (ltb i n && eqb number 0) ≡ true → (i < n) × (number ≡ 0)
-goes_more i n number e = (ltb-true i n (and_left (ltb i n) _ e), eqb-true number 0 (and_right (ltb i n) _ e))
 
 -- the state stands for something all along
 pub feeding_some : (c : Case) (piece : List ℕ) (first d : Log) (i : ℕ) → Feeding c piece first i d → Followed c first
@@ -488,14 +466,10 @@ log_told c s a ok e =
     none = lines_none c (log_lines s)
 
 -- a case at fault: its refusal is the answer
-pub case_refused : (c : Case) (s : List ℕ) (x : Fault) → x ≡ case_fault c → (x.number ≡ 0 → ⊥)
+pub case_refused : (c : Case) (s : List ℕ) (x : Fault) → unless_fault (case_fault c) c ≡ Err x
     → refusal x.number x.place ≡ log_answer c s
 unfolding log_answer log_fault
-case_refused c s x e h = refuses x _ (stop x (case_fault c) _ e h) [] h
-
-pub case_clear : (c : Case) (x : Fault) → x ≡ case_fault c → x.number ≡ 0 → Accepted c
-unfolding Accepted
-case_clear c x e z = ap (λ (f : Fault). f.number) (sym e) ∙ z
+case_refused c s x e = refuses_with _ x [] (checked_stop (case_fault c) _ x (given_fault (case_fault c) x c e))
 
 -- where no set works there is no job
 pub none_left : (number jobs : ℕ) → number ≡ 0 → (eqb number 0 && not (eqb jobs 0)) ≡ false → jobs ≡ 0

@@ -5,10 +5,10 @@ use Rattle.rules.specs.declared.Fault.{Fault}
 use Rattle.rules.specs.declared.Run.{Run}
 use Rattle.rules.specs.Words.{pick}
 use Rattle.rules.specs.Limits.{max_tasks}
-use Rattle.rules.specs.Case.{Case, case_of, release_count}
+use Rattle.rules.specs.Case.{Case, release_count}
 use Rattle.rules.specs.Slot.{Setup, jobs_now, opened, worked}
 use Rattle.rules.specs.Replay.{setup_in, released_in, released_at}
-use Rattle.rules.specs.Refusals.{no_fault, fault_of, Accepted}
+use Rattle.rules.specs.Refusals.{no_fault, fault_of}
 use Rattle.bridge.specs.Steps.{Full}
 use Rattle.bridge.specs.Turn.{Reached}
 use Rattle.counts.specs.Needs.{Counts}
@@ -52,13 +52,11 @@ pub record Followed (c : Case) (d : Log) : Type 0 where
   pub follows : Follows c fed d
 
 -- ---- one slot is opened
--- what its code asks for: a time before the end of an accepted case, the free counts of its table, and the releases up to that time taken
-pub record Openable (procs policy : ℕ) (table counts trace : List ℕ) (t next : ℕ) : Type 0 where
-  pub end : ℕ
-  pub accepted : Accepted (case_of procs policy table end trace)
-  pub before : t < end
-  pub counted : Counts procs table counts
-  pub reached : Reached trace next t
+-- what its code asks for: a time before the end of the case, the free counts of its table, and the releases up to that time taken
+pub record Openable (c : Case) (counts : List ℕ) (t next : ℕ) : Type 0 where
+  pub before : t < c.end
+  pub counted : Counts c.procs c.table counts
+  pub reached : Reached c.trace next t
 
 -- steps 1 to 3 with what is released at its time: the run, the releases after it, the jobs
 pub record Opens (g : Setup) (trace : List ℕ) (t : ℕ) (r s : Run) (next jobs : ℕ) : Type 0 where

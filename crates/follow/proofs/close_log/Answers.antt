@@ -12,16 +12,16 @@ returns-then-not-is_start c =
     λ k f e w. over_unended k f _ w s.result c.if-number-ne0.false
     (s.ensures c.args.log.named) c.if-not-is_start.true
 
-pub returns-then-lines-end : goal.returns-then-lines-end
-returns-then-lines-end c =
+pub returns-then-log-end : goal.returns-then-log-end
+returns-then-log-end c =
     let s = c.is_start in
     λ k f e w. over_number k f _ w s.result c.if-number-ne0.false
     (s.ensures c.args.log.named) c.if-not-is_start.false
-    (λ z. c.if-lines-end.true (z ∙ e))
+    (λ z. c.if-log-end.true (z ∙ e))
 
 pub returns : goal.returns
 returns c =
     let s = c.is_start in
     λ k f e w. over_none k f _ w s.result c.if-number-ne0.false
     (s.ensures c.args.log.named) c.if-not-is_start.false
-    (c.if-lines-end.false ∙ sym e)
+    (c.if-log-end.false ∙ sym e)

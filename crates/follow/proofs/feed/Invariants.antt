@@ -1,17 +1,15 @@
--- `follow::feed` meets its contract: what is known at each place of a turn, and that a turn feeds one line more.
+-- `follow::feed` meets its contract: what the state stood for before the piece it stands for, fed with what is read of it.
 use Prim.Native.Nat.{◌-◌}
 use lib.ListN.{length}
-use Rattle.rules.specs.Case.{case_of}
-use Rattle.follow.specs.Follows.{log_of}
+use Rattle.follow.specs.Follows.{log_of, Followed}
 use Rattle.follow.proofs.Following.{Feeding}
 use Rattle.follow.proofs.feed.Given as goal
 
 abbrev pub invariant-loop-i : goal.invariant-loop-i
-invariant-loop-i l =
-    Feeding (case_of l.procs l.policy l.table l.end l.trace) l.piece (log_of l.initial.s.run l.initial.s.named l.initial.scan
-    l.initial.lines l.initial.next l.initial.jobs l.initial.calm l.initial.number) l.i
-    (log_of l.s.run l.s.named l.scan l.lines l.next l.jobs l.calm l.number)
+invariant-loop-i l = record {
+  fed : Feeding l.accepted l.piece l.fn.log l.i (log_of l.s.run l.s.named l.scan l.lines l.next l.jobs l.calm l.number);
+  some : Followed l.accepted (log_of l.s.run l.s.named l.scan l.lines l.next l.jobs l.calm l.number);
+}
 
 abbrev pub decreases-loop-i : goal.decreases-loop-i
-decreases-loop-i l =
-    length l.piece - l.i
+decreases-loop-i l = length l.piece - l.i

@@ -5,4 +5,4 @@ use Rattle.follow.proofs.open_log.Goals as goal
 
 pub returns : goal.returns
 unfolding tab
-returns c = λ k. opens_at k _ _ c.fresh_run-run.ensures c.line_start-scan.ensures
+returns c = λ k. opens_at k _ _ c.fresh_run.ensures c.line_start.ensures
