@@ -9,8 +9,7 @@ use native.Mathlib.Numerals.{add-one}
 use native.Mathlib.Decide.{dec_lt}
 use native.Mathlib.Omega.{arith}
 use lib.Dec.{ltb, leb}
-use lib.ListN.{length, set}
-use mir.Val.{bool_byte}
+use lib.ListN.{set}
 use borrow.Author.Tests.{lt-ltb, le-leb, ltb-true, leb-true}
 use Rattle.rules.specs.Words.{bit, pick, sum, count_in}
 use Rattle.rules.specs.Limits.{max_tasks}
@@ -19,9 +18,9 @@ use Rattle.rules.specs.declared.Run.{Run}
 use Rattle.lists.specs.Tests.{and_left, and_right, and_both, and_no}
 use Rattle.lists.specs.Sums.{count_mono, count_some, count_le}
 use Rattle.lists.specs.Holds.{some_or_none}
-use Rattle.lists.specs.Fill.{Laying, laying_none, laying_store}
-use Rattle.std.proofs.Common.{append-nil, drop_of_length-le}
+use Rattle.choice.specs.Turns.{idle_due}
 use Rattle.choice.specs.Keys.{key_of, Keyed, no_key, Short, key_below, keys_below, Marked}
+use Rattle.choice.proofs.Marks.{nobody, Marking, mark_none, mark_store, mark_keep, mark_all}
 use Rattle.choice.proofs.Extremes.{least, greatest, least_top, least_low, least_found, greatest_high, greatest_found}
 use Rattle.choice.proofs.Keys.{key, one_key, some_key, one_more}
 
@@ -162,50 +161,64 @@ module _ (policy now : ℕ) (r : Run) (bound : ℕ) where
       at j k true f e s l t = found j k f (rw f at e)
       at j k false f e s l t = found s l t (omega (arith, high s l t, rw f at e))
 
--- ---- the set of those below the bound, as a pass over the tasks marks and counts them, over what the array held
--- a test as the number that is added
-as_bit : (b : Bool) → bool_byte b ≡ bit b
-as_bit true = refl
-as_bit false = refl
-
-pub record MarkedTo (policy now : ℕ) (r : Run) (bound n : ℕ) (held runs : List Bool) (i : ℕ) : Type 0 where
+-- ---- the set of those below the bound, as a pass over the tasks marks and counts them
+pub record MarkedTo (policy now : ℕ) (r : Run) (bound n : ℕ) (runs : List Bool) (i : ℕ) : Type 0 where
   pub count : n ≡ count_in (key_below policy now r bound) 0 i
-  pub marked : Laying (key_below policy now r bound) held runs i
+  pub marked : Marking (key_below policy now r bound) runs i
   pub short : (k : ℕ) → k < i → due_of (job_at r k) < 4294967296
 
-pub marks_none : (policy now : ℕ) (r : Run) (bound : ℕ) (held : List Bool) → MarkedTo policy now r bound 0 held held 0
+pub marks_none : (policy now : ℕ) (r : Run) (bound : ℕ) → MarkedTo policy now r bound 0 nobody 0
 unfolding sum
-marks_none policy now r bound held =
-    record { count = refl; marked = laying_none (key_below policy now r bound) held; short = λ k l. absurd (omega arith) }
+marks_none policy now r bound =
+    record { count = refl; marked = mark_none (key_below policy now r bound); short = λ k l. absurd (omega arith) }
 
-module _ (policy now : ℕ) (r : Run) (bound n : ℕ) (held runs : List Bool) (i : ℕ) (w : MarkedTo policy now r bound n held runs i) where
-  pub marks_fit : (b : Bool) (x : ℕ) → x ≡ bool_byte b → i < max_tasks → n + x ≤ max_tasks
-  marks_fit b x e l = go b (e ∙ as_bit b)
-    where
-      go : (b : Bool) → x ≡ bit b → n + x ≤ max_tasks
-      go true q = omega (arith, w.count, count_le (key_below policy now r bound) 0 i)
-      go false q = omega (arith, w.count, count_le (key_below policy now r bound) 0 i)
+module _ (policy now : ℕ) (r : Run) (bound n : ℕ) (runs : List Bool) (i : ℕ) (w : MarkedTo policy now r bound n runs i) where
+  pub marks_few : n ≤ i
+  marks_few = omega (arith, w.count, count_le (key_below policy now r bound) 0 i)
 
-  pub marks_more : (b : Bool) (x : ℕ) → x ≡ bool_byte b → i < length held → b ≡ key_below policy now r bound i
-      → due_of (job_at r i) < 4294967296
-      → MarkedTo policy now r bound (n + x) held (set runs i b) (i + 1)
-  unfolding sum
-  marks_more b x q l e h = record {
-    count = rw (add-one i, zero-add i, ← e) (omega (arith, q, as_bit b, w.count));
-    marked = laying_store (key_below policy now r bound) held runs i false b l w.marked e;
-    short = λ k m. short_more k (eq-or-lt_of_le {n = k} {m = i} (omega arith));
-  }
-    where
-      short_more : (k : ℕ) → (k ≡ i) ⊎ (k < i) → due_of (job_at r k) < 4294967296
-      short_more k (inl q) = rw q h
-      short_more k (inr u) = w.short k u
+  module _ (l : i < max_tasks) where
+    short_more : due_of (job_at r i) < 4294967296 → (k : ℕ) → k < i + 1 → due_of (job_at r k) < 4294967296
+    short_more h k m = go (eq-or-lt_of_le {n = k} {m = i} (omega arith))
+      where
+        go : (k ≡ i) ⊎ (k < i) → due_of (job_at r k) < 4294967296
+        go (inl e) = rw e h
+        go (inr u) = w.short k u
 
-  pub marks_all : length held ≡ max_tasks → i ≡ max_tasks → Marked policy now r bound n runs
+    counted : (b : Bool) → key_below policy now r bound i ≡ b → n + bit b ≡ count_in (key_below policy now r bound) 0 (i + 1)
+    unfolding sum
+    counted b e = rw (add-one i, zero-add i, e) (omega (arith, w.count))
+
+    pub marks_yes : (k : ℕ) → is_present (job_at r i) ≡ true → Keyed policy now (job_at r i) i k → k < bound
+        → MarkedTo policy now r bound (n + 1) (set runs i true) (i + 1)
+    marks_yes k e q h =
+        let z : key policy now r i < bound = omega (arith, q.is) in
+        let t : key_below policy now r bound i ≡ true = and_both (is_present (job_at r i)) _ e (lt-ltb _ _ z) in
+        record {
+          count = counted true t;
+          marked = mark_store (key_below policy now r bound) runs i true l w.marked (sym t);
+          short = short_more q.short;
+        }
+
+    not-marked : key_below policy now r bound i ≡ false → due_of (job_at r i) < 4294967296 → MarkedTo policy now r bound n runs (i + 1)
+    not-marked t h = record {
+      count = omega (arith, counted false t);
+      marked = mark_keep (key_below policy now r bound) runs i l w.marked t;
+      short = short_more h;
+    }
+
+    pub marks_no : (k : ℕ) → Keyed policy now (job_at r i) i k → bound ≤ k → MarkedTo policy now r bound n runs (i + 1)
+    marks_no k q h =
+        not-marked (and_no (is_present (job_at r i)) _ (λ u v. omega (arith, q.is, ltb-true (key policy now r i) bound v))) q.short
+
+    pub marks_idle : is_present (job_at r i) ≡ false → MarkedTo policy now r bound n runs (i + 1)
+    marks_idle e = not-marked (rw e) (idle_due (job_at r i) e)
+
+  pub marks_all : max_tasks ≤ i → Marked policy now r bound n runs
   unfolding keys_below
-  marks_all full e =
-      let none : length held ≤ max_tasks = omega (arith, full) in
+  marks_all l =
+      let e : i ≡ max_tasks = omega (arith, l, w.marked.within) in
       record {
         count = w.count ∙ ap (count_in (key_below policy now r bound) 0) e;
-        set = w.marked.so_far ∙ rw (e, drop_of_length-le held none, append-nil);
+        set = mark_all (key_below policy now r bound) runs i l w.marked;
         short = λ k u. w.short k (omega arith);
       }

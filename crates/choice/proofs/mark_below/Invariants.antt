@@ -3,4 +3,4 @@ use Rattle.choice.proofs.Passes.{MarkedTo}
 use Rattle.choice.proofs.mark_below.Given as goal
 
 abbrev pub invariant-loop-i : goal.invariant-loop-i
-invariant-loop-i l = MarkedTo l.policy l.clock l.fn.r l.bound l.n l.initial.runs l.runs l.i
+invariant-loop-i l = MarkedTo l.policy l.clock l.fn.r l.bound l.n l.runs l.i
