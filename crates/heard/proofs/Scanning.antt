@@ -3,20 +3,17 @@
 -- stands in an array.
 use Rattle.std.specs.Prelude.{Some, None}
 use mathlib.Core.Path.{◌≡◌, refl, sym, ap, ◌∙◌, fun_ext}
-use mathlib.Core.Bool.{Bool, true, false, ◌&&◌, or-true, or-false, and-false, true≢false}
+use mathlib.Core.Bool.{Bool, true, false, ◌&&◌}
 use mathlib.Core.List.{List, []}
 use Rattle.std.specs.Prelude.{◌⊎◌}
 use Rattle.std.proofs.Common.{inl, inr}
 use Prim.Native.Nat.{ℕ, zero, suc, ◌+◌, ◌*◌, ◌-◌, ◌^◌, ◌≤◌, ◌<◌}
 use native.Mathlib.Nat.{pow-le-pow_right}
 use native.Mathlib.Numerals.{add-one}
-use native.Mathlib.Decide.{dec_lt}
 use native.Mathlib.Omega.{arith}
 use lib.Dec.{eqb, leb}
-use lib.ListN.{length, get_or, set, drop}
-use lib.Seq.{get_or-set_same}
-use borrow.Author.Rules.{read_below, read_above}
-use borrow.Author.Tests.{eq-eqb, ne_eqb, le-leb, lt-ltb, le-ltb, leb-true}
+use lib.ListN.{get_or, set, drop}
+use borrow.Author.Tests.{ne_eqb, leb-true}
 use Rattle.rules.specs.Words.{pick, tab}
 use Rattle.rules.specs.Limits.{max_tasks}
 use Rattle.rules.specs.Slot.{TaskSet}
@@ -28,13 +25,11 @@ use Rattle.feeds.specs.LineScan.{LineScan, wrong, in_time, in_task, is_name, wit
 use Rattle.feeds.specs.LineScan.{after_task, word_tab, word_byte, field_byte, Heard, heard_bad, heard, heard_time, heard_task, line_end}
 use Rattle.feeds.specs.LineScan.{after_return, at_return, scan_byte}
 use Rattle.feeds.specs.Bounds.{NumSmall, LineSmall}
-use Rattle.heard.specs.declared.Ended.{Ended}
-use Rattle.heard.specs.declared.Ended.TheVariants as Ended·
 use Rattle.heard.specs.declared.Phase.{Phase}
 use Rattle.heard.specs.declared.Phase.TheVariants as Phase·
 use Rattle.heard.specs.declared.Scan.{Scan}
 use Rattle.lists.specs.Lists.{members}
-use Rattle.heard.specs.Scans.{word_at, phase_as, scan_as, OfNumber, InNumber, next_low, ended_as}
+use Rattle.heard.specs.Scans.{word_at, phase_as, scan_as, OfNumber, InNumber, next_low}
 
 -- ---- the set
 never_in : (n k i : ℕ) → get_or (tab (λ j. false) k n) i false ≡ false
@@ -47,47 +42,6 @@ never_in (suc n) k (suc i) = never_in n (suc k) i
 pub none_in : members (tab (λ j. false) 0 max_tasks) ≡ set_named []
 unfolding set_named
 none_in = fun_ext (λ i. never_in max_tasks 0 i)
-
--- a task's mark
-pub one_more : (xs : List Bool) (v : ℕ) → length xs ≡ max_tasks → is_name v ≡ true → members (set xs (v - 1) true)
-    ≡ with_name (members xs) v
-one_more xs v l e = fun_ext (λ i. at i (dec_lt i (v - 1)) (dec_lt (v - 1) i))
-  where
-    low : 1 ≤ v
-    low = leb-true 1 v (and_left (leb 1 v) _ e)
-
-    high : v ≤ max_tasks
-    high = leb-true v max_tasks (and_right (leb 1 v) _ e)
-
-    other : (i : ℕ) → (v ≡ suc i → ⊥) → get_or xs i false ≡ with_name (members xs) v i
-    other i h = rw (ne_eqb v (suc i) h) (sym (or-false (get_or xs i false)))
-
-    at : (i : ℕ) → Dec (i < v - 1) → Dec (v - 1 < i) → get_or (set xs (v - 1) true) i false ≡ with_name (members xs) v i
-    at i (yes p) q = read_below Bool xs (v - 1) i true false _ p refl ∙ other i (λ z. omega arith)
-    at i (no p) (yes q) = read_above Bool xs (v - 1) i true false _ q refl ∙ other i (λ z. omega arith)
-    at i (no p) (no q) =
-        let w = low in
-        let h = high in
-        let z : v - 1 ≡ i = omega arith in
-        let y : v ≡ suc i = omega arith in
-        let s : i < max_tasks = omega arith in
-        rw (z, eq-eqb v (suc i) y, lt-ltb i max_tasks s)
-        (get_or-set_same xs i true false (omega (arith, l)) ∙ sym (or-true (get_or xs i false)))
-
--- a number that is no task marks nobody
-pub none_more : (xs : List Bool) (v : ℕ) → is_name v ≡ false → members xs ≡ with_name (members xs) v
-none_more xs v e = fun_ext (λ i. at i (dec_lt i max_tasks))
-  where
-    at : (i : ℕ) → Dec (i < max_tasks) → get_or xs i false ≡ with_name (members xs) v i
-    at i (yes p) = rw (ne_eqb v (suc i) (λ z. named i p z)) (sym (or-false (get_or xs i false)))
-      where
-        named : (i : ℕ) → i < max_tasks → v ≡ suc i → ⊥
-        named i p z =
-            true≢false (rw (le-leb 1 v (omega arith), le-leb v max_tasks (omega arith)) at e)
-    at i (no p) = rw (le-ltb i max_tasks (omega arith), and-false (eqb v (suc i))) (sym (or-false (get_or xs i false)))
-
-pub name_bounds : (v : ℕ) → is_name v ≡ true → (1 ≤ v) × (v ≤ max_tasks)
-name_bounds v e = (leb-true 1 v (and_left (leb 1 v) _ e), leb-true v max_tasks (and_right (leb 1 v) _ e))
 
 -- ---- numbers
 pub num_none : (k v : ℕ) → k ≡ 0 → num_end (num_so_far k v) ≡ None
@@ -114,9 +68,6 @@ fits_digit k v b e =
 
 pub small_worth : (k v : ℕ) → NumSmall (num_so_far k v) → k ≤ 8 → v < 10 ^ 8
 small_worth k v h l = omega (arith, h.1, pow-le-pow_right {n = 10} (omega arith) {i = k} {j = 8} l)
-
-pub small_value : (k v : ℕ) → NumSmall (num_so_far k v) → v < 10 ^ 9
-small_value k v h = omega (arith, h.1, pow-le-pow_right {n = 10} (omega arith) {i = k} {j = 9} h.0)
 
 -- and no tab
 no_tab : (k v b : ℕ) → fits k v b ≡ true → eqb b tab_byte ≡ false
@@ -152,18 +103,10 @@ tab_next p k v t low rises names s (inr e) = rw (e, add-one v) (go k)
     go (suc k) = unfold num_end in refl
 
 -- what a field says at its end, and the state behind the tab
-module _ (s : Scan) (xs ys : List Bool) (n : InNumber s) (low : ℕ) (l : low ≡ next_low s.phase s.value) (x : Ended)
-    (e : ended_as x ys ≡ line_end (scan_as s xs)) where
-  behind : next_task low (ended_as x ys) ≡ field_byte (scan_as s xs) tab_byte
-  behind =
-      rw (e, l) (sym (tab_next s.phase s.digits s.value s.time s.low s.rises s.names (members xs) n.of))
-
-  pub after_bad : x ≡ Ended·.Bad → wrong ≡ field_byte (scan_as s xs) tab_byte
-  after_bad q = ap (λ (z : Ended). next_task low (ended_as z ys)) (sym q) ∙ behind
-
-  pub after_slot : (t : ℕ) (r m : Bool) → x ≡ Ended·.Slot t r m → in_task t low r m (members ys) 0 0
-      ≡ field_byte (scan_as s xs) tab_byte
-  after_slot t r m q = ap (λ (z : Ended). next_task low (ended_as z ys)) (sym q) ∙ behind
+pub field_ended : (s : Scan) (xs : List Bool) (x : Heard) → InNumber s → x ≡ line_end (scan_as s xs)
+    → next_task (next_low s.phase s.value) x ≡ field_byte (scan_as s xs) tab_byte
+field_ended s xs x n e =
+    rw e (sym (tab_next s.phase s.digits s.value s.time s.low s.rises s.names (members xs) n.of))
 
 -- ---- a number that goes on
 pub digit_more : (p : Phase) (k v t low : ℕ) (rises names : Bool) (s : TaskSet) (b : ℕ) → OfNumber p → fits k v b ≡ true
@@ -273,10 +216,3 @@ word_other (suc zero) b l h = word_step 1 b ∙ either (eqb b tab_byte) (rw (ne_
 word_other (suc (suc zero)) b l h = word_step 2 b ∙ either (eqb b tab_byte) (rw (ne_eqb b 111 h))
 word_other (suc (suc (suc zero))) b l h = word_step 3 b ∙ either (eqb b tab_byte) (rw (ne_eqb b 116 h))
 word_other (suc (suc (suc (suc k)))) b l h = absurd (omega arith)
-
-pub last_letter : (k : ℕ) → k < 4 → (k ≡ 0 → ⊥) → (k ≡ 1 → ⊥) → (k ≡ 2 → ⊥) → 116 ≡ get_or slot_word k 0
-last_letter zero l a b d = absurd (a refl)
-last_letter (suc zero) l a b d = absurd (b refl)
-last_letter (suc (suc zero)) l a b d = absurd (d refl)
-last_letter (suc (suc (suc zero))) l a b d = refl
-last_letter (suc (suc (suc (suc k)))) l a b d = absurd (omega arith)

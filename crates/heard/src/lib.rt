@@ -7,7 +7,7 @@ ghost use Rattle.rules.specs.Text.{return_byte, tab_byte};
 ghost use Rattle.rules.specs.Log.{slot_word};
 ghost use Rattle.lists.specs.Lists.{members};
 ghost use Rattle.feeds.specs.NumScan.{fits, num_so_far, num_end};
-ghost use Rattle.feeds.specs.LineScan.{is_name, with_name, field_byte, scan_byte, heard_time, heard_task, line_end, at_start};
+ghost use Rattle.feeds.specs.LineScan.{wrong, is_name, with_name, field_byte, scan_byte, heard_time, heard_task, line_end, at_start};
 ghost use Rattle.feeds.specs.Bounds.{LineSmall};
 ghost use Rattle.heard.specs.Scans.{InWord, InNumber, start_of, next_low, scan_as, ended_as};
 ghost use Rattle.heard.specs.Lines.{NumberSmall, Goes, HeardLine};
@@ -166,6 +166,16 @@ pub fn is_start(s: Scan) -> bool
     matches!(s.phase, Phase::Word) && s.digits == 0
 }
 
+// A line that cannot become one any more.
+fn lost(s: Scan) -> Scan
+    ensures { (xs : List Bool) → scan_as result xs ≡ wrong }
+{
+    Scan {
+        phase: Phase::Wrong,
+        ..s
+    }
+}
+
 // The byte of the word at a place.
 fn letter(place: u32) -> u8
     requires { place < 4 }
@@ -194,10 +204,7 @@ fn word_byte(s: Scan, b: u8) -> Scan
                 ..s
             };
         }
-        return Scan {
-            phase: Phase::Wrong,
-            ..s
-        };
+        return lost(s);
     }
     if b == letter(read) {
         return Scan {
@@ -205,10 +212,7 @@ fn word_byte(s: Scan, b: u8) -> Scan
             ..s
         };
     }
-    Scan {
-        phase: Phase::Wrong,
-        ..s
-    }
+    lost(s)
 }
 
 // The least task that rises behind a field: any behind the time, and behind a task one that is larger.
@@ -230,21 +234,17 @@ fn after_field(s: Scan, named: &mut [bool; MAX_TASKS]) -> Scan
         × (scan_as result named.new ≡ field_byte (scan_as s named.old) tab_byte) }
 {
     let low = next_low(s.phase, s.value);
-    let ended = line_end(s, named);
-    let Ended::Slot { time, rises, names } = ended else {
-        return Scan {
-            phase: Phase::Wrong,
-            ..s
-        };
-    };
-    Scan {
-        phase: Phase::Task,
-        digits: 0,
-        value: 0,
-        time,
-        low,
-        rises,
-        names,
+    match line_end(s, named) {
+        Ended::Bad => lost(s),
+        Ended::Slot { time, rises, names } => Scan {
+            phase: Phase::Task,
+            digits: 0,
+            value: 0,
+            time,
+            low,
+            rises,
+            names,
+        },
     }
 }
 
@@ -265,10 +265,7 @@ fn number_byte(s: Scan, b: u8, named: &mut [bool; MAX_TASKS]) -> Scan
             ..s
         };
     }
-    Scan {
-        phase: Phase::Wrong,
-        ..s
-    }
+    lost(s)
 }
 
 // A return: behind a time or a task the line is heard, and only its newline may follow.
@@ -277,15 +274,12 @@ fn at_return(s: Scan, named: &mut [bool; MAX_TASKS]) -> Scan
     ensures { (length named.new ≡ max_tasks)
         × (scan_as result named.new ≡ scan_byte (scan_as s named.old) return_byte) }
 {
-    let lost = Scan {
-        phase: Phase::Wrong,
-        ..s
-    };
+    let wrong = lost(s);
     if let Phase::Returned = s.phase {
-        return lost;
+        return wrong;
     }
     match line_end(s, named) {
-        Ended::Bad => lost,
+        Ended::Bad => wrong,
         Ended::Slot { time, rises, names } => Scan {
             phase: Phase::Returned,
             time,
@@ -309,10 +303,7 @@ fn scan_byte(s: Scan, b: u8, named: &mut [bool; MAX_TASKS]) -> Scan
     match s.phase {
         Phase::Word => word_byte(s, b),
         Phase::Time | Phase::Task => number_byte(s, b, named),
-        Phase::Wrong | Phase::Returned => Scan {
-            phase: Phase::Wrong,
-            ..s
-        },
+        Phase::Wrong | Phase::Returned => lost(s),
     }
 }
 

@@ -1,21 +1,14 @@
 -- `heard::after_field` meets its contract.
-use Rattle.heard.proofs.Scanning.{after_bad, after_slot}
+use Rattle.std.proofs.Common.{◌∙◌}
+use Rattle.heard.proofs.Scanning.{field_ended}
 use Rattle.heard.proofs.after_field.Goals as goal
 
-pub returns-in_default : goal.returns-in_default
-returns-in_default c =
-    let t = c.line_end-ended in (
-      t.ensures.0,
-      after_bad c.args.s c.args.named.now t.new.named c.requires.in_number _
-          c.next_low-low.ensures t.result
-          t.ensures.1 c.in_default.is,
-    )
+pub returns-in-Bad : goal.returns-in-Bad
+returns-in-Bad c =
+    let t = c.in-Bad.ensures in
+    (t.0, c.lost.ensures _ ∙ field_ended c.args.s c.args.named.now _ c.requires.in_number t.1)
 
-pub returns : goal.returns
-returns c =
-    let t = c.line_end-ended in (
-      t.ensures.0,
-      after_slot c.args.s c.args.named.now t.new.named c.requires.in_number _
-          c.next_low-low.ensures t.result
-          t.ensures.1 _ _ _ c.in-Slot.is,
-    )
+pub returns-in-Slot : goal.returns-in-Slot
+returns-in-Slot c =
+    let t = c.in-Slot.ensures in
+    (t.0, rw c.next_low-low.ensures (field_ended c.args.s c.args.named.now _ c.requires.in_number t.1))

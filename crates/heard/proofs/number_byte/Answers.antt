@@ -21,6 +21,6 @@ pub returns : goal.returns
 returns c =
     let s = c.args.s in (
       c.requires.named_len,
-      number_wrong s.phase s.digits s.value s.time s.low s.rises s.names _ c.args.b
+      c.lost.ensures _ ∙ number_wrong s.phase s.digits s.value s.time s.low s.rises s.names _ c.args.b
           c.requires.in_number.of (sym c.fits.ensures ∙ c.if-fits.false) c.if-b-eq9.false,
     )

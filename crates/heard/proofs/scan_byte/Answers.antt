@@ -19,6 +19,6 @@ returns-in-Wrong c =
     let s = c.args.s in
     let now = c.args.named.now in (
       c.requires.named_len,
-      wrong_on s.phase s.digits s.value s.time s.low s.rises s.names _ c.args.b c.in-Wrong.is
+      c.lost.ensures _ ∙ wrong_on s.phase s.digits s.value s.time s.low s.rises s.names _ c.args.b c.in-Wrong.is
           ∙ scan_other (scan_as s now) c.args.b c.if-b-eq13.false,
     )

@@ -14,7 +14,7 @@ returns-then-b-eq9 c =
 pub returns-then-read-ge4 : goal.returns-then-read-ge4
 returns-then-read-ge4 c =
     let s = c.args.s in
-    λ xs. in_word_lem s.phase s.digits s.value s.time s.low s.rises s.names _ c.args.b _ c.requires
+    λ xs. c.lost.ensures xs ∙ in_word_lem s.phase s.digits s.value s.time s.low s.rises s.names _ c.args.b _ c.requires
     (word_too_long s.digits c.args.b c.if-read-ge4.true c.if-b-eq9.false)
 
 pub returns-then-b-letter : goal.returns-then-b-letter
@@ -29,5 +29,5 @@ pub returns : goal.returns
 returns c =
     let s = c.args.s in
     let short : s.digits < 4 = omega (arith, c.if-read-ge4.false) in
-    λ xs. in_word_lem s.phase s.digits s.value s.time s.low s.rises s.names _ c.args.b _ c.requires
+    λ xs. c.lost-2.ensures xs ∙ in_word_lem s.phase s.digits s.value s.time s.low s.rises s.names _ c.args.b _ c.requires
     (word_other s.digits c.args.b short (λ e. c.if-b-letter.false (e ∙ sym c.letter.ensures)))
