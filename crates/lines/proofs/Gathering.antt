@@ -1,15 +1,15 @@
 -- What the lines of a text come to, from its head and its release lines.
-use mathlib.Core.Path.{◌≡◌, refl, sym, ap, ap₂, ◌∙◌}
+use mathlib.Core.Path.{◌≡◌, ap, ap₂, ◌∙◌}
 use mathlib.Core.List.{List, []}
 use Prim.Native.Nat.{ℕ}
 use native.Mathlib.Omega.{arith}
-use lib.ListN.{length, take, drop, length-take}
+use lib.ListN.{take, drop, length-take}
 use lib.Seq.{take_all}
 use Rattle.rules.specs.Case.{case_of}
 use Rattle.rules.specs.Reader.{lines_of, case_order, lines_fault, case_in}
 use Rattle.rules.specs.declared.Fault.{Fault}
 use Rattle.lines.specs.declared.HeadRead.{HeadRead}
-use Rattle.lines.specs.Held.{table_room, trace_room, clip, kept_case}
+use Rattle.lines.specs.Held.{table_room, clip, kept_case}
 use Rattle.lines.specs.Gathers.{InHead, ReleasesRead, AllRead}
 use Rattle.lines.proofs.Releasing.{releases_said}
 

@@ -2,16 +2,19 @@
 // the case that the lines say, kept as far as it matters.
 #![tactic(auto)]
 
-ghost use Rattle.std.specs.Prelude.{◌≡◌, ◌+◌, ◌≤◌, ◌<◌, length};
+ghost use Rattle.std.specs.Prelude.{◌≡◌, ℕ, ◌+◌, ◌%◌, ◌≤◌, ◌<◌, List, length};
+ghost use Rattle.std.specs.Fn.{FnReturnsAt};
 ghost use Rattle.rules.specs.Limits.{max_text, task_width, release_width};
 ghost use Rattle.rules.specs.Refusals.{checked};
 ghost use Rattle.rules.specs.Reader.{kind_of, case_order};
-ghost use Rattle.kinds.specs.Says.{Opens};
+ghost use Rattle.kinds.specs.declared.Said.{Said};
+ghost use Rattle.kinds.specs.Says.{Opens, Says};
 ghost use Rattle.lines.specs.Held.{table_room, trace_room, line_fault, no_head, no_lines, head_with, row_numbers, release_numbers, Whole};
 ghost use Rattle.lines.specs.Held.{Added};
 ghost use Rattle.lines.specs.Gathers.{NextLine, InHead, HeadLine, Heads, ReleaseLine, Releases, Gathers};
 
 use faults::refuse_unless;
+use kinds::Said;
 use rules::{END, Fault, Line, MAX_RELEASES, MAX_TASKS, RELEASE_WIDTH, TASK_WIDTH};
 
 // Room for one task and one release more than a case may have.
@@ -61,18 +64,19 @@ pub struct Gathered {
     pub releases: usize,
 }
 
-// The line at `at`, badly formed where it has no newline.
-pub fn next_line(text: &[u8], at: usize) -> Step
-    requires { at < length text.now }
+// The line at `at`, of which `says` tells what it says; badly formed where it has no newline.
+fn next_line<F: Fn(&[u8]) -> Said>(text: &[u8], at: usize, says: F) -> Step
+    requires at_in_bounds { at < length text.now }
+    requires callable { F.IsAlwaysCallable says }
+    requires tells { (line : List ℕ) (said : Said) → FnReturnsAt F.Fn says line said → Says line said }
     ensures { NextLine text.now at result }
 {
     let end = scan::line_end(text, at);
     if end < text.len() {
-        let found = kinds::line_says(scan::line(text, at, end));
-        let said = found.line;
+        let Said { kind, line } = says(scan::line(text, at, end));
         Step {
-            kind: found.kind,
-            said,
+            kind,
+            said: line,
             next: end + 1,
         }
     } else {
@@ -80,29 +84,6 @@ pub fn next_line(text: &[u8], at: usize) -> Step
             kind: 0,
             said: Line::Bad,
             next: end,
-        }
-    }
-}
-
-// The same, for a line that is most likely a release.
-pub fn next_release(text: &[u8], at: usize) -> Step
-    requires { at < length text.now }
-    ensures { NextLine text.now at result }
-{
-    let newline = scan::line_end(text, at);
-    if newline < text.len() {
-        let found = kinds::release_says(scan::line(text, at, newline));
-        let said = found.line;
-        Step {
-            kind: found.kind,
-            said,
-            next: newline + 1,
-        }
-    } else {
-        Step {
-            kind: 0,
-            said: Line::Bad,
-            next: newline,
         }
     }
 }
@@ -153,42 +134,44 @@ fn head_with(h: Head, l: Line) -> Head
     }
 }
 
-// Puts a task's numbers behind the n that are kept, where there is room, and returns how many are kept now.
+// Puts the numbers of a task or a release behind the n that are kept, where there is room, and returns how many are kept now.
+fn keep(room: &mut [u32], n: usize, numbers: &[u32]) -> usize
+    requires whole { Whole (length room.old) (length numbers.now) n room.old }
+    requires room_even { length room.old % length numbers.now ≡ 0 }
+    requires some { 0 < length numbers.now }
+    ensures { Added (length room.old) (length numbers.now) n numbers.now room.old result room.new }
+{
+    if n == room.len() {
+        return n;
+    }
+    let after = n + numbers.len();
+    room[n..after].copy_from_slice(numbers);
+    after
+}
+
+// The numbers that a line says of a task are kept, and those of a release.
 fn keep_row(table: &mut [u32], n: usize, l: Line) -> usize
     requires { Whole table_room task_width n table.old }
     ensures { Added table_room task_width n (row_numbers l) table.old result table.new }
 {
-    let Line::Row {
-        period,
-        execution,
-        deadline,
-    } = l
-    else {
-        return n;
-    };
-    if n == TABLE_ROOM {
-        return n;
+    match l {
+        Line::Row {
+            period,
+            execution,
+            deadline,
+        } => keep(table, n, &[period, execution, deadline]),
+        _ => n,
     }
-    table[n] = period;
-    table[n + 1] = execution;
-    table[n + 2] = deadline;
-    n + TASK_WIDTH
 }
 
-// Puts a release's numbers behind the n that are kept, where there is room, and returns how many are kept now.
 fn keep_release(trace: &mut [u32], n: usize, l: Line) -> usize
     requires { Whole trace_room release_width n trace.old }
     ensures { Added trace_room release_width n (release_numbers l) trace.old result trace.new }
 {
-    let Line::Release { time, task } = l else {
-        return n;
-    };
-    if n == TRACE_ROOM {
-        return n;
+    match l {
+        Line::Release { time, task } => keep(trace, n, &[time, task]),
+        _ => n,
     }
-    trace[n] = time;
-    trace[n + 1] = task;
-    n + RELEASE_WIDTH
 }
 
 // Reads one more line of the head after those that were read, or finds it missing where the text stops.
@@ -199,7 +182,7 @@ fn head_line(text: &[u8], top: HeadRead, table: &mut [u32]) -> Result<HeadRead, 
     ensures { HeadLine text.now top.next result table.new }
 {
     refuse_unless(top.next < text.len(), 3, top.line)?;
-    let step = next_line(text, top.next);
+    let step = next_line(text, top.next, kinds::line_says);
     line_fault(top.before, step.kind, step.said, top.line)?;
     Ok(HeadRead {
         head: head_with(top.head, step.said),
@@ -235,7 +218,8 @@ pub fn release_line(
     requires whole { Whole trace_room release_width releases trace.old }
     ensures { ReleaseLine text.now at n releases trace.old result trace.new }
 {
-    let step = next_release(text, at);
+    // most likely a release, so that word is looked for first
+    let step = next_line(text, at, kinds::release_says);
     line_fault(END, step.kind, step.said, n)?;
     Ok(ReleaseStep {
         releases: keep_release(trace, releases, step.said),
