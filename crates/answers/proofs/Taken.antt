@@ -4,21 +4,17 @@ use mathlib.Core.List.{List, [], ◌∷◌}
 use Prim.Native.Nat.{ℕ, ◌*◌, ◌≤◌}
 use native.Mathlib.Omega.{arith}
 use lib.ListN.{length, get_or, take, drop, length-append}
-use borrow.Author.Tests.{ne_eqb}
 use Rattle.rules.specs.declared.Fault.{Fault}
 use Rattle.rules.specs.Limits.{max_tasks, max_releases, task_width, release_width}
 use Rattle.rules.specs.Case.{case_of, task_count, release_count}
-use Rattle.rules.specs.Refusals.{fault_of, Accepted}
+use Rattle.rules.specs.Refusals.{fault_of}
 use Rattle.rules.specs.Answers.{refusal, result, settled}
 use Rattle.rules.specs.Reader.{case_in, text_fault, read_fault, case_values, read_answer, read_tasks, read_releases}
-use Rattle.rules.specs.Report.{refused_line}
 use Rattle.legal.specs.Legal.{Legal, legal}
 use Rattle.legal.specs.Settled.{settled_result}
 use Rattle.texts.specs.Passing.{read_clear, read_roomy}
 use Rattle.roundtrip.specs.RoundTrip.{case_accepted}
 use Rattle.roundtrip.specs.CallTrip.{in_hand, ReadAs, read_as}
-use Rattle.answers.specs.Prints.{case_says, text_says}
-use Rattle.wishes.specs.declared.Wish.{Wish}
 use Rattle.report.proofs.Answers.{refused_by}
 
 module _ (s ts rs : List ℕ) where
@@ -29,11 +25,6 @@ module _ (s ts rs : List ℕ) where
     unfolding read_answer
     refused_fault =
         refused_by (text_fault s) _ n p (h ∙ ap (λ (f : Fault). settled f (case_values (case_in s))) (read_roomy s _ _ a b))
-
-    pub refused_text : (w : Wish) → refused_line n p ≡ text_says w s
-    unfolding text_says
-    refused_text w =
-        rw (ne_eqb (text_fault s).number 0 refused_fault.0) (ap (λ (f : Fault). refused_line f.number f.place) refused_fault.1)
 
   -- ---- a case
   module _ (m p e n k : ℕ) (h : result (m ∷ p ∷ e ∷ n ∷ k ∷ []) ≡ read_answer s ts rs) where
@@ -90,13 +81,3 @@ module _ (s ts rs : List ℕ) where
         ≡ case_in s
     unfolding in_hand
     case_read = ap (λ l. in_hand l (read_tasks s ts rs) (read_releases s ts rs)) (sym settled_read.1) ∙ read.in_hand_lem
-
-    pub case_stands : Accepted (case_of m p (take (n * task_width) (read_tasks s ts rs)) e (take (k * release_width) (read_releases s ts
-        rs)))
-    case_stands = rw case_read (case_accepted s text_clear)
-
-    -- and what is said of it is said of the text
-    pub case_says_lem : (w : Wish) → case_says w
-        (case_of m p (take (n * task_width) (read_tasks s ts rs)) e (take (k * release_width) (read_releases s ts rs))) ≡ text_says w s
-    unfolding text_says
-    case_says_lem w = rw (case_read, text_clear)

@@ -142,6 +142,9 @@ ok_or_err x e = cc
 pub checked_clear : (f : Fault) → f.number ≡ 0 → checked f ≡ Ok tt
 checked_clear f e = rw (eq-eqb f.number 0 e)
 
+pub checked_some : (f : Fault) → (f.number ≡ 0 → ⊥) → checked f ≡ Err f
+checked_some f h = rw (ne_eqb f.number 0 h)
+
 -- a refusal unless a test holds
 pub refused : (b : Bool) (n p : ℕ) → 0 < n → pick b (Ok tt) (Err (fault_of n p)) ≡ checked (unless b n p)
 refused true n p h = refl

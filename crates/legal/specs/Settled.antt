@@ -37,7 +37,7 @@ module _ (x f : Fault) (e : x ≡ f) where
 
 -- ---- f is what a check is made of (rules, Refusals, `checked`): it answers a fault g, or none
 module _ (f : Fault) where
-  checked_fault : (g : Fault) → checked f ≡ Err g → (g ≡ f) × (f.number ≡ 0 → ⊥)
+  pub checked_fault : (g : Fault) → checked f ≡ Err g → (g ≡ f) × (f.number ≡ 0 → ⊥)
   checked_fault g = go (eqb f.number 0) refl
     where
       go : (b : Bool) → eqb f.number 0 ≡ b → ◌≡◌ {A = Result (Unit {0}) Fault} (pick b (Ok tt) (Err f)) (Err g)

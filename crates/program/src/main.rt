@@ -2,11 +2,11 @@
 // where it is a log, a piece at a time; a log in a file is read a piece at a time. The exit status says how it ended (`tell`).
 #![tactic(auto)]
 
-ghost use Rattle.std.specs.Prelude.{◌≡◌, ◌≢◌, ◌≤◌, length, take, None, IfSome, IfOk, OnOk};
+ghost use Rattle.std.specs.Prelude.{◌≡◌, ◌≤◌, length, take, IfSome, IfOk, OnOk};
 ghost use Rattle.std.specs.Io.KnownBytes.{Appends};
 ghost use Rattle.std.specs.Process.{exit_status};
-ghost use Rattle.rules.specs.Case.{case_of};
-ghost use Rattle.rules.specs.Refusals.{Accepted};
+ghost use Rattle.rules.specs.Refusals.{checked};
+ghost use Rattle.rules.specs.declared.Fault.{Fault};
 ghost use Rattle.rules.specs.Report.{refused_line};
 ghost use Rattle.rules.specs.Log.{own_log};
 ghost use Rattle.report.specs.Cases.{print_room};
@@ -16,10 +16,11 @@ ghost use Rattle.answers.specs.Prints.{text_says, wish_fault};
 ghost use Rattle.program.specs.Ends.{status_of, answered};
 
 use blame::BLAME_ROOM;
+use cases::AcceptedCase;
 use follow::Log;
 use prints::LINE_ROOM;
 use reader::{RELEASES_ROOM, TASKS_ROOM};
-use rules::{Fault, Logged, MAX_TASKS, MAX_TEXT, RELEASE_WIDTH, TASK_WIDTH, Taken};
+use rules::{Fault, MAX_TASKS, MAX_TEXT};
 use std::env::FillError;
 use std::fs::{self, File};
 use std::io::{self, Cursor, Read, Write};
@@ -82,36 +83,30 @@ struct Streams<O, E> {
     err: E,
 }
 
-// What was read: why a read failed, if one did, and how many bytes came.
-#[derive(Clone, Copy)]
-struct Input {
-    failure: Option<io::Error>,
-    length: usize,
-}
-
-fn came(failure: Option<io::Error>, length: usize) -> Input
-    ensures cause { result.failure ≡ failure }
-    ensures count { result.length ≡ length }
-{
-    Input { failure, length }
+// Why there is no answer: what failed, and what the system says of it.
+#[derive(Drop)]
+enum Failure {
+    Read(io::Error),
+    Write(io::Error),
+    Open(io::Error),
 }
 
 // Reads until the input ends, a read fails or the room is full. Only a read that answers 0 ends the input: one that fails is told apart.
 // Where none failed, what came is what the input had, as far as there is room.
-fn read_text<R: Read>(from: &mut R, text: &mut [u8]) -> Input
-    ensures fits { result.length ≤ length text.new }
-    ensures whole { result.failure ≡ None → IfSome (R.remaining from.old)
-        (λ xs. take result.length text.new ≡ take (length text.old) xs) }
+fn read_text<R: Read>(from: &mut R, text: &mut [u8]) -> io::Result<usize>
+    ensures fits { IfOk result (λ n. n ≤ length text.new) }
+    ensures whole { IfOk result (λ n. IfSome (R.remaining from.old)
+        (λ xs. take n text.new ≡ take (length text.old) xs)) }
 {
     let mut n: usize = 0;
     while n < text.len() {
-        match from.read(&mut text[n..]) {
-            Ok(0) => return came(None, n),
-            Ok(more) => n += more,
-            Err(why) => return came(Some(why), n),
+        let more = from.read(&mut text[n..])?;
+        if more == 0 {
+            return Ok(n);
         }
+        n += more;
     }
-    came(None, n)
+    Ok(n)
 }
 
 // Writes an answer to its end.
@@ -149,15 +144,21 @@ fn plain(words: &str) -> &str {
 }
 
 // Says on standard error what failed and why.
-fn fail<E: Write>(err: &mut E, what: &[u8], why: io::Error) -> Outcome
+fn fail<E: Write>(err: &mut E, failure: Failure) -> Outcome
     ensures { result ≡ Outcome.Failed }
 {
+    let (what, why) = match failure {
+        Failure::Read(why) => ("read", why),
+        Failure::Write(why) => ("write", why),
+        Failure::Open(why) => ("open", why),
+    };
     let mut words = Cursor::new([0u8; 300]);
     let _ = write!(words, "{why}");
     let n = words.position() as usize;
     let room = words.into_inner();
     let said = room.get(..n).unwrap_or(b"");
-    put(err, what);
+    put(err, b"thrumcomb: ");
+    put(err, what.as_bytes());
     put(err, b": ");
     put(err, plain(str::from_utf8(said).unwrap_or("")).as_bytes());
     put(err, b"\n");
@@ -174,7 +175,7 @@ fn say<E: Write>(err: &mut E, words: &[u8]) {
 // Says a refusal in words.
 fn say_refusal<E: Write>(err: &mut E, fault: Fault) {
     let mut words = [0u8; 100];
-    let n = reasons::put_reason(&mut words, fault.number, fault.place);
+    let n = reasons::put_reason(&mut words, fault);
     say(err, &words[..n]);
 }
 
@@ -252,11 +253,9 @@ fn say_unknown<R: Env, E: Write>(rt: &R, err: &mut E) -> Outcome
     Outcome::Unknown
 }
 
-fn print_help<O: Write, E: Write>(to: &mut Streams<O, E>) -> Outcome {
-    match say_usage(&mut to.out) {
-        Ok(()) => Outcome::Done,
-        Err(why) => fail(&mut to.err, b"thrumcomb: write", why),
-    }
+fn print_help<O: Write>(out: &mut O) -> Result<Outcome, Failure> {
+    say_usage(out).map_err(Failure::Write)?;
+    Ok(Outcome::Done)
 }
 
 // The bytes that everything printed fits into.
@@ -267,13 +266,12 @@ fn blank() -> [u8; 132800]
 }
 
 // How a case was answered whose answer is written: a refusal is said in words too.
-fn finish<E: Write>(err: &mut E, fault: Fault, quiet: bool) -> Outcome
-    ensures { result ≡ answered fault.number }
+fn finish<E: Write>(err: &mut E, found: Result<(), Fault>, quiet: bool) -> Outcome
+    ensures { (f : Fault) → found ≡ checked f → result ≡ answered f.number }
 {
-    let number = fault.number;
-    if number == 0 {
+    let Err(fault) = found else {
         return Outcome::Done;
-    }
+    };
     if !quiet {
         say_refusal(err, fault);
     }
@@ -287,24 +285,18 @@ fn run<I: Read, O: Write, E: Write>(
     to: &mut Streams<O, E>,
     wish: Wish,
     quiet: bool,
-) -> Outcome
-    ensures { result ≢ Outcome.Failed → IfSome (I.remaining from.old)
-        (λ xs. (result ≡ answered (wish_fault wish (take 60001 xs)).number)
-        × Appends (O.contents to.old.out) (O.contents to.new.out) (text_says wish (take 60001 xs))) }
+) -> Result<Outcome, Failure>
+    ensures { IfOk result (λ outcome. IfSome (I.remaining from.old)
+        (λ xs. (outcome ≡ answered (wish_fault wish (take 60001 xs)).number)
+        × Appends (O.contents to.old.out) (O.contents to.new.out) (text_says wish (take 60001 xs)))) }
 {
     let mut text = [0u8; MAX_TEXT + 1];
     let mut out = blank();
-    let input = read_text(from, &mut text);
-    if let Some(why) = input.failure {
-        return fail(&mut to.err, b"thrumcomb: read", why);
-    }
-    let n = input.length;
-    let fault = answers::fault_of(wish, &text[..n]);
+    let n = read_text(from, &mut text).map_err(Failure::Read)?;
+    let found = answers::fault_of(wish, &text[..n]);
     let length = answers::answer(wish, &text[..n], &mut out);
-    match write_out(&mut to.out, &out[..length]) {
-        Ok(()) => finish(&mut to.err, fault, quiet),
-        Err(why) => fail(&mut to.err, b"thrumcomb: write", why),
-    }
+    write_out(&mut to.out, &out[..length]).map_err(Failure::Write)?;
+    Ok(finish(&mut to.err, found, quiet))
 }
 
 // ---- a refusal that is the whole answer
@@ -313,18 +305,23 @@ fn print_refusal<O: Write>(out: &mut O, fault: Fault) -> io::Result<()>
     ensures { OnOk result (Appends (O.contents out.old) (O.contents out.new) (refused_line fault.number fault.place)) }
 {
     let mut line = [0u8; LINE_ROOM];
-    let n = prints::put_refused(&mut line, fault.number, fault.place);
+    let n = prints::put_refused(&mut line, fault);
     write_out(out, &line[..n])
 }
 
-fn refuse_case<O: Write, E: Write>(to: &mut Streams<O, E>, fault: Fault, quiet: bool) -> Outcome
-    ensures { result ≢ Outcome.Failed → (result ≡ answered fault.number)
-        × Appends (O.contents to.old.out) (O.contents to.new.out) (refused_line fault.number fault.place) }
+fn refuse_case<O: Write, E: Write>(
+    to: &mut Streams<O, E>,
+    fault: Fault,
+    quiet: bool,
+) -> Result<Outcome, Failure>
+    ensures { IfOk result (λ outcome. (outcome ≡ Outcome.Refused)
+        × Appends (O.contents to.old.out) (O.contents to.new.out) (refused_line fault.number fault.place)) }
 {
-    match print_refusal(&mut to.out, fault) {
-        Ok(()) => finish(&mut to.err, fault, quiet),
-        Err(why) => fail(&mut to.err, b"thrumcomb: write", why),
+    print_refusal(&mut to.out, fault).map_err(Failure::Write)?;
+    if !quiet {
+        say_refusal(&mut to.err, fault);
     }
+    Ok(Outcome::Refused)
 }
 
 // ---- the check of a slot log
@@ -336,16 +333,11 @@ const PIECE: usize = 65536;
 // Where a read fails there is no check, since it would stand for a part of the file alone.
 fn follow_file<F: Read>(
     file: &mut F,
-    procs: u32,
-    policy: u32,
-    table: &[u32],
+    accepted: &AcceptedCase,
     counts: &[u32; MAX_TASKS],
-    end: u32,
-    trace: &[u32],
 ) -> io::Result<Log>
-    requires accepted { Accepted (case_of procs policy table.now end trace.now) }
-    requires counts { Counts procs table.now counts.now }
-    ensures { IfOk result (λ log. Followed (case_of procs policy table.now end trace.now) log) }
+    requires { Counts accepted.now.procs accepted.now.table counts.now }
+    ensures { IfOk result (λ log. Followed accepted.now log) }
 {
     let mut piece = [0u8; PIECE];
     let mut log = follow::open_log();
@@ -355,7 +347,7 @@ fn follow_file<F: Read>(
         if n == 0 {
             return Ok(log);
         }
-        log = follow::feed(log, procs, policy, table, counts, end, trace, &piece[..n]);
+        log = follow::feed(log, accepted, counts, &piece[..n]);
         if log.number != 0 {
             return Ok(log);
         }
@@ -368,132 +360,76 @@ fn follow_file<F: Read>(
 fn say_blame<E: Write>(err: &mut E, log: Log, procs: u32, policy: u32) {
     let mut words = [0u8; BLAME_ROOM];
     let mut named = log.named;
-    let run = log.run;
-    let scan = log.scan;
-    let clock = log.lines;
-    let ended = heard::line_end(scan, &mut named);
+    let ended = heard::line_end(log.scan, &mut named);
     let names = follow::names_tasks(ended);
-    let n = blame::put_blame(&mut words, run, procs, policy, clock, names, &named);
+    let n = blame::put_blame(&mut words, log.run, procs, policy, log.lines, names, &named);
     say(err, &words[..n]);
 }
 
-// How the check of a log ended that is refused, whose answer is written: the refusal is said in words too.
-fn finish_log<E: Write>(
-    err: &mut E,
-    log: Log,
-    procs: u32,
-    policy: u32,
-    fault: Fault,
-    quiet: bool,
-) -> Outcome
-    ensures { result ≡ Outcome.Refused }
-{
-    let number = fault.number;
-    if !quiet {
-        say_refusal(err, fault);
-        if number == 18 {
-            say_blame(err, log, procs, policy);
-        }
-    }
-    Outcome::Refused
-}
-
+// Refuses a log: the refusal is said in words too, and where a slot breaks the rule, what is wrong in it.
 fn refuse_log<O: Write, E: Write>(
     to: &mut Streams<O, E>,
     log: Log,
-    procs: u32,
-    policy: u32,
+    accepted: &AcceptedCase,
     fault: Fault,
     quiet: bool,
-) -> Outcome
-    ensures { result ≢ Outcome.Failed → (result ≡ Outcome.Refused)
-        × Appends (O.contents to.old.out) (O.contents to.new.out) (refused_line fault.number fault.place) }
+) -> Result<Outcome, Failure>
+    ensures { IfOk result (λ outcome. (outcome ≡ Outcome.Refused)
+        × Appends (O.contents to.old.out) (O.contents to.new.out) (refused_line fault.number fault.place)) }
 {
-    match print_refusal(&mut to.out, fault) {
-        Ok(()) => finish_log(&mut to.err, log, procs, policy, fault, quiet),
-        Err(why) => fail(&mut to.err, b"thrumcomb: write", why),
+    let outcome = refuse_case(to, fault, quiet)?;
+    if !quiet && fault.number == 18 {
+        say_blame(&mut to.err, log, accepted.case.procs, accepted.case.policy);
     }
+    Ok(outcome)
 }
 
-fn accept_log<O: Write, E: Write>(to: &mut Streams<O, E>) -> Outcome {
-    match write_out(&mut to.out, b"accepted\n") {
-        Ok(()) => Outcome::Done,
-        Err(why) => fail(&mut to.err, b"thrumcomb: write", why),
-    }
+fn accept_log<O: Write>(out: &mut O) -> Result<Outcome, Failure> {
+    write_out(out, b"accepted\n").map_err(Failure::Write)?;
+    Ok(Outcome::Done)
 }
 
 // Checks the log in a file against a case. Where a read failed nothing is written: what came may be a shorter log than what was there.
 fn judge_file<F: Read, O: Write, E: Write>(
     file: &mut F,
     to: &mut Streams<O, E>,
-    procs: u32,
-    policy: u32,
-    table: &[u32],
-    end: u32,
-    trace: &[u32],
+    accepted: &AcceptedCase,
     quiet: bool,
-) -> Outcome
-    requires { Accepted (case_of procs policy table.now end trace.now) }
-{
-    let free = counts::free_counts(procs, table);
-    let log = match follow_file(file, procs, policy, table, &free, end, trace) {
-        Ok(log) => log,
-        Err(why) => return fail(&mut to.err, b"thrumcomb: read", why),
-    };
-    match follow::close_log(log, end) {
-        Logged::Refused { number, place } => {
-            refuse_log(to, log, procs, policy, Fault { number, place }, quiet)
-        }
-        Logged::Accepted => accept_log(to),
+) -> Result<Outcome, Failure> {
+    let case = &accepted.case;
+    let free = counts::free_counts(case.procs, case.table);
+    let log = follow_file(file, accepted, &free).map_err(Failure::Read)?;
+    match follow::close_log(log, case.end) {
+        Err(fault) => refuse_log(to, log, accepted, fault, quiet),
+        Ok(()) => accept_log(&mut to.out),
     }
 }
 
 // ---- our own slot log
 
 // Writes the slot log of a case, a piece at a time.
-fn write_slots<O: Write>(
-    out: &mut O,
-    procs: u32,
-    policy: u32,
-    table: &[u32],
-    end: u32,
-    trace: &[u32],
-) -> io::Result<()>
-    requires { Accepted (case_of procs policy table.now end trace.now) }
-    ensures { OnOk result (Appends (O.contents out.old) (O.contents out.new)
-        (own_log (case_of procs policy table.now end trace.now))) }
+fn write_slots<O: Write>(out: &mut O, accepted: &AcceptedCase) -> io::Result<()>
+    ensures { OnOk result (Appends (O.contents out.old) (O.contents out.new) (own_log accepted.now)) }
 {
     let mut piece = [0u8; PIECE];
-    let free = counts::free_counts(procs, table);
+    let case = &accepted.case;
+    let free = counts::free_counts(case.procs, case.table);
     let mut play = ownlog::start();
-    while play.clock < end {
+    while play.clock < case.end {
         let mut n: usize = 0;
-        play = ownlog::put_slots(
-            play, procs, policy, table, &free, end, trace, &mut piece, &mut n,
-        );
+        play = ownlog::put_slots(play, accepted, &free, &mut piece, &mut n);
         out.write_all(&piece[..n])?;
     }
     out.flush()
 }
 
 // Prints the slot log of a case.
-fn print_slots<O: Write, E: Write>(
-    to: &mut Streams<O, E>,
-    procs: u32,
-    policy: u32,
-    table: &[u32],
-    end: u32,
-    trace: &[u32],
-) -> Outcome
-    requires { Accepted (case_of procs policy table.now end trace.now) }
-    ensures { result ≢ Outcome.Failed → (result ≡ Outcome.Done)
-        × Appends (O.contents to.old.out) (O.contents to.new.out)
-        (own_log (case_of procs policy table.now end trace.now)) }
+fn print_slots<O: Write>(out: &mut O, accepted: &AcceptedCase) -> Result<Outcome, Failure>
+    ensures { IfOk result (λ outcome. (outcome ≡ Outcome.Done)
+        × Appends (O.contents out.old) (O.contents out.new) (own_log accepted.now)) }
 {
-    match write_slots(&mut to.out, procs, policy, table, end, trace) {
-        Ok(()) => Outcome::Done,
-        Err(why) => fail(&mut to.err, b"thrumcomb: write", why),
-    }
+    write_slots(out, accepted).map_err(Failure::Write)?;
+    Ok(Outcome::Done)
 }
 
 // ---- what is asked of a log
@@ -502,35 +438,12 @@ fn print_slots<O: Write, E: Write>(
 fn serve_case<F: Read, O: Write, E: Write>(
     file: Option<&mut F>,
     to: &mut Streams<O, E>,
-    procs: u32,
-    policy: u32,
-    table: &[u32],
-    end: u32,
-    trace: &[u32],
+    accepted: &AcceptedCase,
     quiet: bool,
-) -> Outcome
-    requires { Accepted (case_of procs policy table.now end trace.now) }
-{
+) -> Result<Outcome, Failure> {
     match file {
-        None => print_slots(to, procs, policy, table, end, trace),
-        Some(file) => judge_file(file, to, procs, policy, table, end, trace, quiet),
-    }
-}
-
-// What is at fault with a text, by what the reader took from it.
-fn fault_in(taken: Taken) -> Fault {
-    match taken {
-        Taken::Refused { number, place } => Fault { number, place },
-        Taken::Read {
-            procs: _,
-            policy: _,
-            end: _,
-            tasks: _,
-            releases: _,
-        } => Fault {
-            number: 0,
-            place: 0,
-        },
+        None => print_slots(&mut to.out, accepted),
+        Some(file) => judge_file(file, to, accepted, quiet),
     }
 }
 
@@ -541,32 +454,13 @@ fn serve_text<F: Read, O: Write, E: Write>(
     to: &mut Streams<O, E>,
     text: &[u8],
     quiet: bool,
-) -> Outcome {
+) -> Result<Outcome, Failure> {
     let mut rows = [0u32; TASKS_ROOM];
     let mut times = [0u32; RELEASES_ROOM];
-    let taken = reader::read(text, &mut rows, &mut times);
-    let Taken::Read {
-        procs,
-        policy,
-        end,
-        tasks,
-        releases,
-    } = taken
-    else {
-        return refuse_case(to, fault_in(taken), quiet);
-    };
-    let t = tasks * TASK_WIDTH;
-    let r = releases * RELEASE_WIDTH;
-    serve_case(
-        file,
-        to,
-        procs,
-        policy,
-        &rows[0..t],
-        end,
-        &times[0..r],
-        quiet,
-    )
+    match answers::accepted_case(text, &mut rows, &mut times) {
+        Err(fault) => refuse_case(to, fault, quiet),
+        Ok(accepted) => serve_case(file, to, &accepted, quiet),
+    }
 }
 
 // Linux's number for a name that is too long.
@@ -592,13 +486,9 @@ fn run_slots<I: Read, O: Write, E: Write>(
     from: &mut I,
     to: &mut Streams<O, E>,
     quiet: bool,
-) -> Outcome {
+) -> Result<Outcome, Failure> {
     let mut text = [0u8; MAX_TEXT + 1];
-    let input = read_text(from, &mut text);
-    if let Some(why) = input.failure {
-        return fail(&mut to.err, b"thrumcomb: read", why);
-    }
-    let n = input.length;
+    let n = read_text(from, &mut text).map_err(Failure::Read)?;
     let no_file: Option<&mut File> = None;
     serve_text(no_file, to, &text[..n], quiet)
 }
@@ -611,33 +501,29 @@ fn run_log<R: Env + Files, I: Read, O: Write, E: Write>(
     to: &mut Streams<O, E>,
     word: usize,
     quiet: bool,
-) -> Outcome {
+) -> Result<Outcome, Failure> {
     let mut text = [0u8; MAX_TEXT + 1];
-    let input = read_text(from, &mut text);
-    if let Some(why) = input.failure {
-        return fail(&mut to.err, b"thrumcomb: read", why);
-    }
-    let n = input.length;
-    match open_named(rt, word) {
-        Ok(mut file) => serve_text(Some(&mut file), to, &text[..n], quiet),
-        Err(why) => fail(&mut to.err, b"thrumcomb: open", why),
-    }
+    let n = read_text(from, &mut text).map_err(Failure::Read)?;
+    let mut file = open_named(rt, word).map_err(Failure::Open)?;
+    serve_text(Some(&mut file), to, &text[..n], quiet)
 }
 
 fn main(rt: HostRuntime) -> ExitCode {
-    let words = wished(&rt);
-    let wish = words.wish;
-    let quiet = words.quiet;
+    let Asked { wish, quiet } = wished(&rt);
     let mut from = rt.stdin();
     let mut to = Streams {
         out: rt.stdout(),
         err: rt.stderr(),
     };
-    tell(match wish {
-        Wish::Unknown => say_unknown(&rt, &mut to.err),
-        Wish::Help => print_help(&mut to),
+    let answered = match wish {
+        Wish::Unknown => Ok(say_unknown(&rt, &mut to.err)),
+        Wish::Help => print_help(&mut to.out),
         Wish::Slots => run_slots(&mut from, &mut to, quiet),
         Wish::Log { word } => run_log(&rt, &mut from, &mut to, word as usize, quiet),
         _ => run(&mut from, &mut to, wish, quiet),
+    };
+    tell(match answered {
+        Ok(outcome) => outcome,
+        Err(failure) => fail(&mut to.err, failure),
     })
 }

@@ -7,6 +7,7 @@ ghost use Rattle.puts.specs.Laid.{Laid};
 ghost use Rattle.reasons.specs.Reasons.{plain_reason, reason_of, reason_room, Said, NotEarly};
 
 use puts::{put_bytes, put_number};
+use rules::Fault;
 
 // Writes words with a place between them at the start.
 fn put_placed(out: &mut [u8], before: &[u8], place: u32, after: &[u8]) -> usize
@@ -56,10 +57,11 @@ fn put_late_reason(out: &mut [u8], number: u32, place: u32) -> usize
 }
 
 // Writes the words of a refusal, chosen by its number, at the start of the lent bytes and returns their length.
-pub fn put_reason(out: &mut [u8], number: u32, place: u32) -> usize
+pub fn put_reason(out: &mut [u8], fault: Fault) -> usize
     requires { reason_room ≤ length out.old }
-    ensures { Said (reason_of number place) out.old out.new result }
+    ensures { Said (reason_of fault.number fault.place) out.old out.new result }
 {
+    let Fault { number, place } = fault;
     match number {
         1 => put_bytes(out, 0, b"text: over 60,000 bytes"),
         2 => put_placed(out, b"line ", place, b": badly formed"),
