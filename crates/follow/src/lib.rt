@@ -84,6 +84,7 @@ fn told(stands: bool) -> u32
 }
 
 // What is at fault in a slot after step 3, whose line names this set: 18, or nothing. Without any job only the set is looked at.
+#[tactic(auto, using(rule::specs::NoneWait::nobody_keeps))]
 fn slot_number(
     run: Run,
     accepted: &AcceptedCase,
