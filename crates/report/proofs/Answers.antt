@@ -46,11 +46,6 @@ refused_by f vs n p h =
     (some, ap fault_in (h ∙ sym (refuses f f refl vs some)))
 
 -- ---- the rooms are long enough
-pub replay_fits : (c : Case) → Accepted c → (replay_fault c (max_releases * record_width)).number ≡ 0
-unfolding replay_fault Accepted
-replay_fits c h = row_passes (case_fault c ∷ room_fault (release_count c.trace * record_width) _ ∷ [])
-    (h, (room_passes _ _ (omega (arith, (legal c h).releases_few)), tt))
-
 pub write_fits : (c : Case) (room : ℕ) → Accepted c → print_room ≤ room → (write_fault c room).number ≡ 0
 write_fits c room h p = write_clear c room h (omega (arith, text_fits c h, p))
 

@@ -27,18 +27,6 @@ use Rattle.report.specs.Cases.{lines_text, count_text, counts_text, slot_text, L
 use Rattle.report.proofs.Lines.{line_fits}
 use Rattle.report.proofs.Answers.{never_refused, values_are, write_fits, slot_refused, slot_ran}
 
--- ---- the replay
-module _ (c : Case) (room : List ℕ) (x : Result Totals Fault) (f : (replay_fault c (length room)).number ≡ 0)
-    (h : replayed_as x ≡ replay_answer c room) where
-  pub replay_accepts : (g : Fault) → x ≡ Err g → ⊥
-  unfolding replay_answer
-  replay_accepts g e = never_refused (replay_fault c (length room)) _ g.number g.place f (sym (ap replayed_as e) ∙ h)
-
-  pub replay_totals : (t : Totals) → x ≡ Ok t
-      → ◌≡◌ {A = List ℕ} (t.met ∷ t.missed ∷ t.«open» ∷ []) (met_jobs c ∷ missed_jobs c ∷ open_jobs c ∷ [])
-  unfolding replay_answer
-  replay_totals t e = values_are (replay_fault c (length room)) _ _ (sym (ap replayed_as e) ∙ h)
-
 -- ---- the counts
 module _ (m : ℕ) (ts room : List ℕ) (f : (counts_fault m ts (length room)).number ≡ 0) where
   module _ (x : Result ℕ Fault) (h : counted_as x ≡ counts_answer m ts room) where

@@ -39,10 +39,10 @@ module _ (c : Case) (ok : Accepted c) where
         judged = omega (arith, r, h);
       }
 
-  module _ (room out : List ℕ) (o : out ≡ replay_room c room) (f : (replay_fault c (length room)).number ≡ 0) where
+  module _ (room out : List ℕ) (o : out ≡ room_after c room) where
     noted : out ≡ numbers (records c) ++ drop (release_count c.trace * record_width) room
-    unfolding replay_room room_after
-    noted = o ∙ kept_new (replay_fault c (length room)) _ _ f
+    unfolding room_after
+    noted = o
 
     pub fits : release_count c.trace * record_width ≤ length out
     fits =

@@ -57,17 +57,13 @@ pub fn put_report(out: &mut [u8], accepted: &AcceptedCase) -> usize
 {
     let case = &accepted.case;
     let mut records = [0u32; RECORDS_ROOM];
-    match engine::replay(case.again(), &mut records) {
-        Err(fault) => put_refused(out, fault),
-        Ok(totals) => {
-            let tasks = cases::task_count(case.table) as u32;
-            let releases = cases::release_count(case.trace) as u32;
-            let at = put_run(out, case.policy, case.procs, tasks, case.end);
-            let last = put_jobs(out, at, case.table, case.trace, &records);
-            let length = put_total(&mut out[last..], releases, totals);
-            last + length
-        }
-    }
+    let totals = engine::replay_run(accepted, &mut records);
+    let tasks = cases::task_count(case.table) as u32;
+    let releases = cases::release_count(case.trace) as u32;
+    let at = put_run(out, case.policy, case.procs, tasks, case.end);
+    let last = put_jobs(out, at, case.table, case.trace, &records);
+    let length = put_total(&mut out[last..], releases, totals);
+    last + length
 }
 
 // Writes a line for each of the first n free counts, in table order.

@@ -7,8 +7,8 @@ use Rattle.report.proofs.put_free_counts.Goals as goal
 
 pub put_count_lines-requires : goal.put_count_lines-requires
 put_count_lines-requires c =
-    let counts = c.counts-counted.ensures in
-    let n = counts_number _ _ _ c.requires.max_tasks_value _ counts.answer _ c.in-Counts.is in
+    let counts = c.counts.ensures in
+    let n = counts_number _ _ _ c.requires.max_tasks_value _ counts.answer _ c.in-Ok.is in
     let few = (counts_clear _ _ max_tasks c.requires.max_tasks_value).roomy in
     let long = counts_long _ _ _ c.requires.max_tasks_value _ counts.left in
     record {
@@ -17,14 +17,11 @@ put_count_lines-requires c =
       line_room_in_bounds = omega (arith, n, few, c.requires.print_room_in_bounds);
     }
 
-pub returns-in-Refused : goal.returns-in-Refused
-returns-in-Refused c =
-    let counts = c.counts-counted in
-    absurd (counts_accepts _ _ _ c.requires.max_tasks_value _ counts.ensures.answer _ _ c.in-Refused.is)
+pub returns-in-Err : goal.returns-in-Err
+returns-in-Err c = absurd (counts_accepts _ _ _ c.requires.max_tasks_value _ c.counts.ensures.answer _ c.in-Err.is)
 
-pub returns-in-Counts : goal.returns-in-Counts
-returns-in-Counts c =
-    let counts = c.counts-counted in
+pub returns-in-Ok : goal.returns-in-Ok
+returns-in-Ok c =
     let h = c.requires.max_tasks_value in
-    counts_shown _ _ _ h _ counts.ensures.left _ (counts_number _ _ _ h _ counts.ensures.answer _ c.in-Counts.is)
+    counts_shown _ _ _ h _ c.counts.ensures.left _ (counts_number _ _ _ h _ c.counts.ensures.answer _ c.in-Ok.is)
     (counts_clear _ _ max_tasks h).roomy _ _ _ c.put_count_lines.ensures

@@ -2,12 +2,10 @@
 use Rattle.report.proofs.Commands.{write_accepts, text_shown}
 use Rattle.report.proofs.put_text.Goals as goal
 
-pub returns-in-Refused : goal.returns-in-Refused
-returns-in-Refused c =
-    let write = c.write-written in
-    absurd (write_accepts _ _ c.requires.accepted c.requires.print_room_in_bounds _ write.ensures.answer _ _ c.in-Refused.is)
+pub returns-in-Err : goal.returns-in-Err
+returns-in-Err c = absurd (write_accepts _ _ c.accepted.invariant c.requires _ c.write.ensures.answer _ c.in-Err.is)
 
-pub returns-in-Text : goal.returns-in-Text
-returns-in-Text c =
-    let write = c.write-written in
-    text_shown _ _ c.requires.accepted c.requires.print_room_in_bounds _ write.ensures.answer _ c.in-Text.is _ write.ensures.left
+pub returns-in-Ok : goal.returns-in-Ok
+returns-in-Ok c =
+    rw (← c.accepted.view_is)
+    (text_shown _ _ c.accepted.invariant c.requires _ c.write.ensures.answer _ c.in-Ok.is _ c.write.ensures.left)
