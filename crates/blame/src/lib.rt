@@ -99,7 +99,8 @@ impl Slot<'_> {
     fn is_wronged(&self, j: usize, i: usize) -> bool
         requires j_in_bounds { j < max_tasks }
         requires i_in_bounds { i < max_tasks }
-        ensures { (table : List ℕ) → result ≡ wronged (setup_with self.now table) self.now.clock self.now.run.now (members self.now.named.now) j i }
+        ensures { (table : List ℕ) → result
+            ≡ wronged (setup_with self.now table) self.now.clock self.now.run.now (members self.now.named.now) j i }
     {
         has_job(self.job(j))
             && !self.named[j]
