@@ -4,10 +4,10 @@
 
 ghost use Rattle.std.specs.Prelude.{◌≡◌, ◌&&◌, not, ◌+◌, ◌≤◌, ◌<◌, min, length, ℕ, List};
 ghost use Rattle.rules.specs.Limits.{max_tasks};
-ghost use Rattle.rules.specs.Slot.{job_at, jobs_now, present, setup_of};
+ghost use Rattle.rules.specs.Slot.{job_at, jobs_now, present};
 ghost use Rattle.rules.specs.Log.{sooner, wronged};
 ghost use Rattle.puts.specs.Laid.{Laid};
-ghost use Rattle.blame.specs.Blames.{ran_count, kind_words, job_words, pair_words, absent_words, count_words};
+ghost use Rattle.blame.specs.Blames.{setup_with, ran_count, kind_words, job_words, pair_words, absent_words, count_words};
 ghost use Rattle.lists.specs.Lists.{members};
 ghost use Rattle.blame.specs.Blames.{kind_room, job_room, fault_room, blame_room};
 ghost use Rattle.blame.specs.Blames.{Absent, Overtaking, Waiting, WaitingLaid, FaultLaid, Blamed};
@@ -99,7 +99,8 @@ impl Slot<'_> {
     fn is_wronged(&self, j: usize, i: usize) -> bool
         requires j_in_bounds { j < max_tasks }
         requires i_in_bounds { i < max_tasks }
-        ensures { (table : List ℕ) → result ≡ wronged (setup_of self.now.procs self.now.policy table) self.now.clock self.now.run.now (members self.now.named.now) j i }
+        ensures { (table : List ℕ) → result
+            ≡ wronged (setup_with self.now table) self.now.clock self.now.run.now (members self.now.named.now) j i }
     {
         has_job(self.job(j))
             && !self.named[j]

@@ -1,4 +1,4 @@
--- Going on in a line (`Goes` of Lines): by no byte, by one, by a digit, by one way and then another; and where the line ends.
+-- Going on in a line (`Goes` of Lines): by a byte, by a digit, by one way and then another; and where the line ends.
 use mathlib.Core.Path.{◌≡◌, refl, ap, ◌∙◌}
 use mathlib.Core.Bool.{Bool, true, false}
 use mathlib.Core.List.{List, []}
@@ -32,9 +32,6 @@ unfolding up_to
 at_newline bytes i l e = rw (drop-cons bytes i 0 l, e)
 
 -- ---- going on
-pub goes_none : (bytes : List ℕ) (i : ℕ) (x : LineScan) → i ≤ length bytes → Goes bytes i x i x
-goes_none bytes i x l = record { on = omega arith; within = l; small = λ h. h; state = refl; place = refl }
-
 pub goes_both : {bytes : List ℕ} {i j k : ℕ} {x y z : LineScan} → Goes bytes i x j y → Goes bytes j y k z → Goes bytes i x k z
 goes_both a b = record {
   on = omega (arith, a.on, b.on);

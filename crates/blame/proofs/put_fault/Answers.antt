@@ -31,4 +31,5 @@ pub returns : goal.returns
 returns c =
     let ran = c.ran_count-ran.ensures in
     let due = c.due_count-due.ensures in
-    λ table. right_count _ _ _ _ _ (ap not c.if-not-names.false) c.in_default.ensures ran due c.if-ran-due.false (c.put_waiting.ensures table)
+    λ table.
+    right_count _ _ _ _ _ (ap not c.if-not-names.false) c.in_default.ensures ran due c.if-ran-due.false (c.put_waiting.ensures table)
