@@ -22,7 +22,7 @@ use Rattle.traces.specs.Step.{same_step, next_run}
 use Rattle.puts.specs.Laid.{Laid}
 use Rattle.puts.proofs.Puts.{laid_none, laid_then, laid_part, laid_length}
 use Rattle.prints.specs.Lines.{line_room, Printed}
-use Rattle.ownlog.specs.Pieces.{play_of, Plays, slot_line_at, slots_text, Another, Wrote}
+use Rattle.ownlog.specs.Pieces.{play_of, Plays, slot_line_at, slots_text, Wrote}
 use Rattle.ownlog.specs.Whole.{slots_none, slots_more}
 
 -- before the first slot
@@ -78,21 +78,20 @@ module _ (c : Case) (from : ℕ) (old : List ℕ) (run : Run) (next clock at : �
           fits = omega (arith, room, p.short, laid_length line);
         })
 
-  -- where no other line is written, the piece is over; at least one was, since the bytes have room for one
-  pub writing_done : (said : Bool) → Another clock c.end at (length out) said → said ≡ false → line_room ≤ length old
-      → Wrote c from (play_of run next clock) old out at
-  writing_done said o f h = record {
+  -- where there is no room for another line, at least one was written, since the bytes have room for one
+  pub writing_done : length out - at < line_room → line_room ≤ length old → Wrote c from (play_of run next clock) old out at
+  writing_done f h = record {
     plays = v.plays;
     onward = v.onward;
-    goes = λ m. go m (dec_lt from clock);
+    goes = λ m. go (dec_lt from clock);
     laid = v.laid;
     fits = omega (arith, v.fits, laid_length v.laid);
   }
     where
-      go : from < c.end → Dec (from < clock) → from < clock
-      go m (yes x) = x
-      go m (no x) =
+      go : Dec (from < clock) → from < clock
+      go (yes x) = x
+      go (no x) =
           let same : clock ≡ from = omega (arith, v.onward) in
           let z : clock - from ≡ 0 = omega arith in
           let none : length (slots_text c from (clock - from)) ≡ 0 = rw z (ap length (slots_none c from)) in
-          absurd (o.not_so f (omega arith) (omega (arith, v.laid.behind, none, h, laid_length v.laid)))
+          absurd (omega (arith, f, v.laid.behind, none, h, laid_length v.laid))

@@ -1,6 +1,6 @@
 -- Our own log (rules, Log: `own_log`) in pieces: how the replay stands between two pieces, the lines of some slots of a case, and what the
 -- writer of a piece promises.
-use Rattle.std.specs.Prelude.{◌≡◌, Bool, true, false, List, ℕ, ◌+◌, ◌-◌, ◌≤◌, ◌<◌, length}
+use Rattle.std.specs.Prelude.{◌≡◌, List, ℕ, ◌-◌, ◌≤◌, ◌<◌, length}
 use Rattle.rules.specs.Words.{tab}
 use Rattle.rules.specs.Case.{Case}
 use Rattle.rules.specs.Slot.{tasks_in}
@@ -10,7 +10,6 @@ use Rattle.rules.specs.Log.{slot_line_text}
 use Rattle.rules.specs.declared.Run.{Run}
 use Rattle.bridge.specs.Turn.{Reached}
 use Rattle.puts.specs.Laid.{Laid}
-use Rattle.prints.specs.Lines.{line_room}
 use Rattle.ownlog.specs.declared.Play.{Play}
 
 abbrev pub play_of : Run → ℕ → ℕ → Play
@@ -29,11 +28,6 @@ slot_line_at c t = slot_line_text t (tasks_in (ran_at c t))
 -- the lines of n slots, from time a on
 unfoldable pub slots_text : Case → ℕ → ℕ → List ℕ
 slots_text c a n = joined_text (tab (slot_line_at c) a n)
-
--- whether there is a slot at the clock, and room for a line behind the first `at` bytes
-pub record Another (clock end at room : ℕ) (said : Bool) : Type 0 where
-  pub is_so : said ≡ true → (clock < end) × (at + line_room ≤ room)
-  pub not_so : said ≡ false → clock < end → at + line_room ≤ room → ⊥
 
 -- a piece is written: from the slot at time a on, up to the play q, the lines of the slots stand at the start of the lent bytes, and all
 -- else is as it was; n is their length. At least one slot is gone on by, unless there is none
