@@ -1,6 +1,6 @@
 -- What is said of a text by the case that was read of it, or by what is at fault with it.
 use Rattle.std.specs.Prelude.{Result, Ok, Err}
-use mathlib.Core.Path.{◌≡◌, sym, ap, ◌∙◌}
+use mathlib.Core.Path.{◌≡◌, refl, sym, ap, ◌∙◌}
 use mathlib.Core.List.{List, []}
 use Prim.Native.Nat.{ℕ}
 use native.Mathlib.Omega.{arith}
@@ -29,13 +29,18 @@ module _ (s : List ℕ) (r : Result Case Fault) (h : r ≡ unless_fault (text_fa
       let a = given_clear (text_fault s) (case_in s) c (sym h ∙ e) in
       rw (eq-eqb (text_fault s).number 0 (clear_checked _ a.0), a.1) p
 
-  pub refusal_shown : (w : Wish) (f : Fault) → r ≡ Err f → (old new : List ℕ) (k : ℕ)
+  pub refusal_shown : (w : Wish) → ((c : Case) → r ≡ Ok c → ⊥) → (old new : List ℕ) (k : ℕ)
       → Printed line_room (refusal_text (answer_as case_values r)) old new k
       → Printed print_room (text_says w s) old new k
   unfolding text_says
-  refusal_shown w f e old new k p =
-      let a = checked_fault (text_fault s) f (given_fault (text_fault s) f (case_in s) (sym h ∙ e)) in
-      rw (ne_eqb (text_fault s).number 0 a.1, ← a.0) (line_fits (rw e at p))
+  refusal_shown w none old new k = go r refl
+    where
+      go : (x : Result Case Fault) → r ≡ x → Printed line_room (refusal_text (answer_as case_values x)) old new k
+          → Printed print_room (text_says w s) old new k
+      go (Ok c) e p = absurd (none c e)
+      go (Err f) e p =
+          let a = checked_fault (text_fault s) f (given_fault (text_fault s) f (case_in s) (sym h ∙ e)) in
+          rw (ne_eqb (text_fault s).number 0 a.1, ← a.0) (line_fits p)
 
 -- ---- a wish by its case
 pub wish_shown : (w v : Wish) (c : Case) (old new : List ℕ) (k : ℕ) → w ≡ v → Printed print_room (case_says v c) old new k

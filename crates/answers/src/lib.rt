@@ -47,6 +47,7 @@ fn put_refusal(out: &mut [u8], read: &Result<AcceptedCase, Fault>) -> usize
 
 // Writes what a wish asks of a case. A log, asked for or checked, may be of any length: the program writes it a piece at a time, and
 // nothing of it is put here.
+#[tactic(auto, using(crate::proofs::Said::nothing_shown), unfolding(crate::specs::Prints::case_says))]
 fn put_wish(out: &mut [u8], wish: Wish, accepted: &AcceptedCase) -> usize
     requires { print_room ≤ length out.old }
     ensures { Printed print_room (case_says wish accepted.now) out.old out.new result }
