@@ -1,6 +1,8 @@
 -- Fronts of lists: what came from an input, what was laid at the start of a room; and what is said of a front of the input.
 use Rattle.std.proofs.Common.{◌≡◌, ◌≤◌, ◌+◌, ℕ, List, ◌++◌, None, Some, IfSome, OnOk, Result, Ok, Err, length, take, drop, refl, sym, ap}
 use Rattle.std.proofs.Common.{◌∙◌, subst, arith, take-take, take_at}
+use Rattle.std.specs.Prelude.{Bool, true}
+use Rattle.std.specs.Result.{MatchResult, is_ok}
 use Rattle.std.proofs.lemmas.List.{length-take-le}
 use Rattle.std.proofs.lemmas.Slice.{take-put_mid}
 use lib.Seq.{take-append-add}
@@ -32,6 +34,12 @@ laid_text text old new n laid h =
 pub on_ok : {A E : Type 0} (r : Result A E) (P : Type 0) → P → OnOk r P
 on_ok (Ok x) P p = p
 on_ok (Err e) P p = tt
+
+-- a call succeeded with x if it did with its error told in other words
+pub ok_before : {A E : Type 0} (F : Type 0) (Q : E → Type 0) (r : Result A E) (x : A) → true ≡ is_ok r
+    → MatchResult r (λ y. ◌≡◌ {A = Result A F} (Ok x) (Ok y)) Q → r ≡ Ok x
+ok_before F Q (Ok y) x e p = cc
+ok_before F Q (Err d) x e p = absurd cc
 
 -- what is said of the text that came is said of the front of the input
 pub said_of_front : (a : Option (List ℕ)) (text : List ℕ) (m n : ℕ) (w : Wish) (r : Outcome) (old new : Option (List ℕ))

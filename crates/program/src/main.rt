@@ -6,7 +6,6 @@ ghost use Rattle.std.specs.Prelude.{◌≡◌, ◌≤◌, length, take, IfSome, 
 ghost use Rattle.std.specs.Io.KnownBytes.{Appends};
 ghost use Rattle.std.specs.Process.{exit_status};
 ghost use Rattle.rules.specs.Refusals.{checked};
-ghost use Rattle.rules.specs.declared.Fault.{Fault};
 ghost use Rattle.rules.specs.Report.{refused_line};
 ghost use Rattle.rules.specs.Log.{own_log};
 ghost use Rattle.report.specs.Cases.{print_room};
@@ -416,8 +415,7 @@ fn write_slots<O: Write>(out: &mut O, accepted: &AcceptedCase) -> io::Result<()>
     let free = counts::free_counts(case.procs, case.table);
     let mut play = ownlog::start();
     while play.clock < case.end {
-        let mut n: usize = 0;
-        play = ownlog::put_slots(play, accepted, &free, &mut piece, &mut n);
+        let n = ownlog::put_slots(&mut play, accepted, &free, &mut piece);
         out.write_all(&piece[..n])?;
     }
     out.flush()

@@ -11,6 +11,6 @@ loop-n-preserved g c =
     record {
       long = search rules;
       within = search rules;
-      came = subst (Consumes _ _) (sym (read_front _ _ _ _ _ v.within c.in-Ok.ensures.bound.0))
-          (Consumes-trans _ _ _ _ _ v.came c.in-Ok.ensures.bytes.0);
+      came = subst (Consumes _ _) (sym (read_front _ _ _ _ _ v.within c.in_ok-more.ensures.bound.0))
+          (Consumes-trans _ _ _ _ _ v.came c.in_ok-more.ensures.bytes.0);
     }
