@@ -17,7 +17,7 @@ use rules::{MAX_TASKS, Run};
 // ---- the trace
 
 // The place of each task's last release, kept on over the releases from one place to another.
-#[tactic(auto, using(crate::proofs::Trace::keeping_more, crate::proofs::Trace::keeping_done))]
+#[tactic(auto, using(crate::proofs::Trace::places_more))]
 fn keep_places(trace: &[u32], from: usize, next: usize, place: &mut [u16; MAX_TASKS])
     requires orderly { Orderly trace.now }
     requires from_le_next { from ≤ next }
