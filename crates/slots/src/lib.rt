@@ -17,7 +17,7 @@ use rules::{MAX_TASKS, Run};
 // ---- the trace
 
 // The place of each task's last release, kept on over the releases from one place to another.
-#[tactic(auto, using(crate::proofs::Trace::keeping_more, crate::proofs::Trace::keeping_done))]
+#[tactic(auto, using(crate::proofs::Trace::places_more))]
 fn keep_places(trace: &[u32], from: usize, next: usize, place: &mut [u16; MAX_TASKS])
     requires orderly { Orderly trace.now }
     requires from_le_next { from ≤ next }
@@ -92,31 +92,27 @@ pub fn walk(accepted: &AcceptedCase, until: u32, noting: bool, out: &mut [u32]) 
     ensures { LastRan accepted.now until result × (noting ≡ true → out.new ≡ room_at accepted.now until out.old) }
 {
     let case = &accepted.case;
-    let procs = case.procs;
-    let policy = case.policy;
-    let table = case.table;
-    let trace = case.trace;
     let mut counts = [0; MAX_TASKS];
-    let mut run = start(procs, table, &mut counts);
+    let mut run = start(case.procs, case.table, &mut counts);
     let mut place = [0; MAX_TASKS];
     let mut next = 0;
     let mut jobs = 0;
     let mut bound = 0;
     let mut ran = [false; MAX_TASKS];
     for clock in 0..until {
-        if rests(trace, next, jobs, clock) {
+        if rests(case.trace, next, jobs, clock) {
             ran = [false; MAX_TASKS];
         } else {
             let mut released = [false; MAX_TASKS];
             let mut demoted = [false; MAX_TASKS];
             let mut done = [false; MAX_TASKS];
             let mut late = [false; MAX_TASKS];
-            next = pass_releases(trace, next, clock, &mut place, &mut released);
+            next = pass_releases(case.trace, next, clock, &mut place, &mut released);
             run = slot::settle(
                 run,
-                procs,
-                policy,
-                table,
+                case.procs,
+                case.policy,
+                case.table,
                 &counts,
                 &released,
                 clock,
@@ -125,8 +121,17 @@ pub fn walk(accepted: &AcceptedCase, until: u32, noting: bool, out: &mut [u32]) 
                 &mut demoted,
                 &mut ran,
             );
-            bound = choice::choose(run, procs, policy, clock, jobs, bound, &mut ran);
-            run = slot::work(run, procs, policy, clock, jobs, &ran, &mut done, &mut late);
+            bound = choice::choose(run, case.procs, case.policy, clock, jobs, bound, &mut ran);
+            run = slot::work(
+                run,
+                case.procs,
+                case.policy,
+                clock,
+                jobs,
+                &ran,
+                &mut done,
+                &mut late,
+            );
             if noting {
                 notes::note_slot(out, &place, &done, &demoted, &late, clock);
             }

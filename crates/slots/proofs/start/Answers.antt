@@ -16,7 +16,7 @@ pub loop-i-init : goal.loop-i-init
 unfolding tab
 loop-i-init c = (
   filling_none max_tasks _ _ refl (tab_long idle_task 0 max_tasks),
-  record { long = refl; each = λ k h m. absurd (omega arith) },
+  λ k h m. absurd (omega arith),
 )
 
 pub loop-i-preserved : goal.loop-i-preserved
@@ -26,7 +26,7 @@ loop-i-preserved c =
       filling_store max_tasks _ _ _ _ no_task _ k v.0
           (c.idle_task.ensures _ (add-one _) ∙ sym (tab_at idle_task max_tasks _ no_task k)),
       elim c.if-i-tasks.branch [
-        | then-i-tasks w ↦ rw w.counts-is (counting_store _ _ _ _ v.1 _ k w.free_count.ensures)
+        | then-i-tasks w ↦ rw w.counts-is (counting_store _ _ _ _ v.1 _ (omega arith) w.free_count.ensures)
         | else-i-tasks w ↦ rw w.counts-is (counting_past _ _ _ _ v.1 (omega arith))
       ],
     )
