@@ -24,8 +24,8 @@ use rules::{Fault, MAX_TASKS, Run};
 
 // The check so far: the run, the tasks that the unfinished line names, how far that line is heard, how many lines were before it, the
 // first release that is not taken, how many jobs the run has and whether steps 1 and 3 of the next slot surely change none of them, and the
-// number of the first fault, 0 where there is none. Once at fault it stays as it is: of a slot that breaks the rule the run is that after
-// step 3, for the words that say why.
+// number of the first fault, 0 where there is none: the loop asks for it at each line, and its place is that of the line. Once at fault it
+// stays as it is: of a slot that breaks the rule the run is that after step 3, for the words that say why.
 #[derive(Clone, Copy)]
 pub struct Log {
     pub run: Run,
@@ -184,9 +184,10 @@ pub fn open_log() -> Log
     }
 }
 
-// A piece of the log, line by line: up to the newline by the bytes alone, then the slot. The run is changed here, in the loop that holds
-// it, and only where a slot changes it: a function that took it and gave it back would copy it in every slot. Run and set stay in the
-// state: the compiler takes a run that is a local of its own apart into its 32 tasks and copies it part by part.
+// A piece of the log, line by line: up to the newline by the bytes alone, then the slot. A turn goes on by a line and not by one byte, and
+// what follows a fault does not matter. The run is changed where this loop holds it, and only where a slot changes it: a function that took
+// it and gave it back would copy it in every slot. Run and set stay in the state: the compiler takes a run that is a local of its own apart
+// into its 32 tasks and copies it part by part.
 pub fn feed(log: Log, accepted: &AcceptedCase, counts: &[u32; MAX_TASKS], piece: &[u8]) -> Log
     requires counts { Counts accepted.now.procs accepted.now.table counts.now }
     requires followed { Followed accepted.now log }

@@ -27,7 +27,8 @@ loop-i-init c = record { fed = feeding_none _ c.args.piece.now _; some = c.requi
 
 pub overflow_add-i : goal.overflow_add-i
 overflow_add-i c =
-    let there : (c.scan_line-scan.new.at ≤ length c.args.piece.now) = (newline_there _ _ _ _ _ _ (omega arith) c.scan_line-scan.ensures).0 in
+    let h = c.scan_line-scan in
+    let there : h.new.at ≤ length c.args.piece.now = (newline_there _ _ _ _ _ _ (omega arith) h.ensures).0 in
     omega arith
 
 pub loop-i-preserved : goal.loop-i-preserved
