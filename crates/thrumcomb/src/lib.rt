@@ -2,32 +2,19 @@
 // refusal alone. A slice is passed as a pointer and then a length. include/thrumcomb.h says the same to a C program.
 #![tactic(auto)]
 
-ghost use Rattle.std.specs.Prelude.{[]};
+ghost use Rattle.std.specs.Prelude.{◌≡◌, []};
 ghost use Rattle.rules.specs.Case.{case_of};
-ghost use Rattle.rules.specs.Answers.{answer_as};
-ghost use Rattle.rules.specs.Told.{Told, seen, CountsTold, ReplayTold, RunningTold, ReadTold, WriteTold, ConvertTold, LogTold};
+ghost use Rattle.rules.specs.Told.{seen, CountsTold, ReplayTold, RunningTold, ReadTold, WriteTold, ConvertTold, LogTold};
 
 use cases::Case;
 use rules::Fault;
 
-// Tells an answer: its results, or the number and the place of its refusal.
-fn tell<const N: usize>(
-    answer: Result<[usize; N], Fault>,
-    results: &mut [usize; N],
-    place: &mut u32,
-) -> u32
-    ensures { Told (answer_as (λ values. values) answer) (seen result place.old place.new results.old results.new) }
+// Tells a refusal: its place is written, its number is returned.
+fn refuse(fault: Fault, place: &mut u32) -> u32
+    ensures { (result ≡ fault.number) × (place.new ≡ fault.place) }
 {
-    match answer {
-        Ok(values) => {
-            *results = values;
-            0
-        }
-        Err(fault) => {
-            *place = fault.place;
-            fault.number
-        }
-    }
+    *place = fault.place;
+    fault.number
 }
 
 // The contention-free counts of a table. The result: how many tasks.
@@ -42,8 +29,13 @@ pub extern "C" fn thrumcomb_counts(
     ensures { CountsTold procs table.now out.old out.new
         (seen result place.old place.new results.old results.new) }
 {
-    let answer = counts::counts(procs, table, out);
-    tell(answer.map(|tasks| [tasks]), results, place)
+    match counts::counts(procs, table, out) {
+        Ok(tasks) => {
+            *results = [tasks];
+            0
+        }
+        Err(fault) => refuse(fault, place),
+    }
 }
 
 // The replay of a case. The results: the totals of met, missed and open.
@@ -68,9 +60,17 @@ pub extern "C" fn thrumcomb_replay(
         end,
         trace,
     };
-    let answer = engine::replay(case, out);
-    let told = answer.map(|t| [t.met as usize, t.missed as usize, t.open as usize]);
-    tell(told, results, place)
+    match engine::replay(case, out) {
+        Ok(totals) => {
+            *results = [
+                totals.met as usize,
+                totals.missed as usize,
+                totals.open as usize,
+            ];
+            0
+        }
+        Err(fault) => refuse(fault, place),
+    }
 }
 
 // The running set of a named slot. The result: the set.
@@ -95,8 +95,13 @@ pub extern "C" fn thrumcomb_running_set(
         end,
         trace,
     };
-    let answer = engine::running(case, slot);
-    tell(answer.map(|set| [set as usize]), results, place)
+    match engine::running(case, slot) {
+        Ok(set) => {
+            *results = [set as usize];
+            0
+        }
+        Err(fault) => refuse(fault, place),
+    }
 }
 
 // The reader of a case text. The results: processors, policy, end, how many tasks and releases.
@@ -111,15 +116,19 @@ pub extern "C" fn thrumcomb_read(
     ensures { ReadTold text.now tasks.old tasks.new releases.old releases.new
         (seen result place.old place.new results.old results.new) }
 {
-    let answer = reader::read(text, tasks, releases);
-    let told = answer.map(|t| [
-        t.procs as usize,
-        t.policy as usize,
-        t.end as usize,
-        t.tasks,
-        t.releases,
-    ]);
-    tell(told, results, place)
+    match reader::read(text, tasks, releases) {
+        Ok(taken) => {
+            *results = [
+                taken.procs as usize,
+                taken.policy as usize,
+                taken.end as usize,
+                taken.tasks,
+                taken.releases,
+            ];
+            0
+        }
+        Err(fault) => refuse(fault, place),
+    }
 }
 
 // The writer of a case text. The result: the text's length.
@@ -144,8 +153,13 @@ pub extern "C" fn thrumcomb_write(
         end,
         trace,
     };
-    let answer = writer::write(&case, out);
-    tell(answer.map(|length| [length]), results, place)
+    match writer::write(&case, out) {
+        Ok(length) => {
+            *results = [length];
+            0
+        }
+        Err(fault) => refuse(fault, place),
+    }
 }
 
 // The converter of a text without a policy line. The result: the new text's length.
@@ -159,8 +173,13 @@ pub extern "C" fn thrumcomb_convert(
     ensures { ConvertTold text.now out.old out.new
         (seen result place.old place.new results.old results.new) }
 {
-    let answer = converter::convert(text, out);
-    tell(answer.map(|bytes| [bytes]), results, place)
+    match converter::convert(text, out) {
+        Ok(bytes) => {
+            *results = [bytes];
+            0
+        }
+        Err(fault) => refuse(fault, place),
+    }
 }
 
 // The check of a slot log. There is no result: 0 says that the log is accepted.
@@ -184,6 +203,8 @@ pub extern "C" fn thrumcomb_check_log(
         end,
         trace,
     };
-    let answer = follow::check_log(case, log);
-    tell(answer.map(|()| []), &mut [], place)
+    match follow::check_log(case, log) {
+        Ok(()) => 0,
+        Err(fault) => refuse(fault, place),
+    }
 }
