@@ -135,13 +135,13 @@ fn head_with(h: Head, l: Line) -> Head
 }
 
 // Puts the numbers of a task or a release behind the n that are kept, where there is room, and returns how many are kept now.
-fn keep(room: &mut [u32], n: usize, numbers: &[u32]) -> usize
-    requires whole { Whole (length room.old) (length numbers.now) n room.old }
-    requires room_even { length room.old % length numbers.now ≡ 0 }
+fn keep<const ROOM: usize>(room: &mut [u32], n: usize, numbers: &[u32]) -> usize
+    requires whole { Whole ROOM (length numbers.now) n room.old }
+    requires room_even { ROOM % length numbers.now ≡ 0 }
     requires some { 0 < length numbers.now }
-    ensures { Added (length room.old) (length numbers.now) n numbers.now room.old result room.new }
+    ensures { Added ROOM (length numbers.now) n numbers.now room.old result room.new }
 {
-    if n == room.len() {
+    if n == ROOM {
         return n;
     }
     let after = n + numbers.len();
@@ -159,7 +159,7 @@ fn keep_row(table: &mut [u32], n: usize, l: Line) -> usize
             period,
             execution,
             deadline,
-        } => keep(table, n, &[period, execution, deadline]),
+        } => keep::<TABLE_ROOM>(table, n, &[period, execution, deadline]),
         _ => n,
     }
 }
@@ -169,7 +169,7 @@ fn keep_release(trace: &mut [u32], n: usize, l: Line) -> usize
     ensures { Added trace_room release_width n (release_numbers l) trace.old result trace.new }
 {
     match l {
-        Line::Release { time, task } => keep(trace, n, &[time, task]),
+        Line::Release { time, task } => keep::<TRACE_ROOM>(trace, n, &[time, task]),
         _ => n,
     }
 }

@@ -2,8 +2,5 @@
 use Rattle.lines.proofs.Stores.{adds_none, not_release}
 use Rattle.lines.proofs.keep_release.Goals as goal
 
-pub returns-in-Release : goal.returns-in-Release
-returns-in-Release c = rw c.in-Release.is (rw c.requires.long at c.keep.ensures)
-
 pub returns-in_default : goal.returns-in_default
 returns-in_default c = adds_none _ _ _ _ c.requires _ (not_release c.args.l c.in_default.not-Release)
