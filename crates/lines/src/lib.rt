@@ -11,7 +11,7 @@ ghost use Rattle.kinds.specs.declared.Said.{Said};
 ghost use Rattle.kinds.specs.Says.{Opens, Says};
 ghost use Rattle.lines.specs.Held.{table_room, trace_room, line_fault, no_head, no_lines, head_with, row_numbers, release_numbers, Whole};
 ghost use Rattle.lines.specs.Held.{Added};
-ghost use Rattle.lines.specs.Gathers.{NextLine, InHead, HeadLine, Heads, ReleaseLine, Releases, Gathers};
+ghost use Rattle.lines.specs.Gathers.{NextLine, InHead, HeadLine, Heads, Releases, Gathers};
 
 use faults::refuse_unless;
 use kinds::Said;
@@ -35,13 +35,6 @@ pub struct Head {
 pub struct Step {
     pub kind: u32,
     pub said: Line,
-    pub next: usize,
-}
-
-// A release line: how many release numbers are kept after it, and where the next line starts.
-#[derive(Clone, Copy)]
-pub struct ReleaseStep {
-    pub releases: usize,
     pub next: usize,
 }
 
@@ -206,27 +199,6 @@ pub fn read_head(text: &[u8], table: &mut [u32]) -> Result<HeadRead, Fault>
     Ok(top)
 }
 
-// Reads line n, which starts at `at`, as a release line, and puts its numbers behind those that are kept.
-pub fn release_line(
-    text: &[u8],
-    at: usize,
-    n: u32,
-    trace: &mut [u32],
-    releases: usize,
-) -> Result<ReleaseStep, Fault>
-    requires at_in_bounds { at < length text.now }
-    requires whole { Whole trace_room release_width releases trace.old }
-    ensures { ReleaseLine text.now at n releases trace.old result trace.new }
-{
-    // most likely a release, so that word is looked for first
-    let step = next_line(text, at, kinds::release_says);
-    line_fault(END, step.kind, step.said, n)?;
-    Ok(ReleaseStep {
-        releases: keep_release(trace, releases, step.said),
-        next: step.next,
-    })
-}
-
 // Reads the release lines, of which the first is line n and starts at `at`: the smallest one at fault, or how many release numbers were
 // kept.
 pub fn read_releases(text: &[u8], at: usize, n: u32, trace: &mut [u32]) -> Result<usize, Fault>
@@ -240,8 +212,10 @@ pub fn read_releases(text: &[u8], at: usize, n: u32, trace: &mut [u32]) -> Resul
     let mut line = n;
     let mut next = at;
     while next < text.len() {
-        let step = release_line(text, next, line, trace, releases)?;
-        releases = step.releases;
+        // most likely a release, so that word is looked for first
+        let step = next_line(text, next, kinds::release_says);
+        line_fault(END, step.kind, step.said, line)?;
+        releases = keep_release(trace, releases, step.said);
         line += 1;
         next = step.next;
     }
