@@ -6,7 +6,7 @@ use Rattle.rules.specs.Limits.{task_width, release_width}
 use Rattle.rules.specs.Case.{Case}
 use Rattle.rules.specs.Refusals.{checked}
 use Rattle.rules.specs.Text.{after_line}
-use Rattle.rules.specs.Reader.{kind_of, lines_of, Order, case_order, lines_fault, policy_when_absent, with_lines, case_with_default}
+use Rattle.rules.specs.Reader.{lines_of, Order, case_order, lines_fault, policy_when_absent, with_lines, case_with_default}
 use Rattle.rules.specs.Reader.{case_in}
 use Rattle.rules.specs.declared.Fault.{Fault}
 use Rattle.kinds.specs.Says.{Opens}

@@ -2,7 +2,7 @@
 // the case that the lines say, kept as far as it matters.
 #![tactic(auto)]
 
-ghost use Rattle.std.specs.Prelude.{◌≡◌, ℕ, ◌+◌, ◌%◌, ◌≤◌, ◌<◌, List, length};
+ghost use Rattle.std.specs.Prelude.{◌≡◌, ℕ, ◌+◌, ◌≤◌, ◌<◌, List, length};
 ghost use Rattle.std.specs.Fn.{FnReturnsAt};
 ghost use Rattle.rules.specs.Limits.{max_text, task_width, release_width};
 ghost use Rattle.rules.specs.Refusals.{checked};
@@ -127,44 +127,42 @@ fn head_with(h: Head, l: Line) -> Head
     }
 }
 
-// Puts the numbers of a task or a release behind the n that are kept, where there is room, and returns how many are kept now.
-fn keep<const ROOM: usize>(room: &mut [u32], n: usize, numbers: &[u32]) -> usize
-    requires whole { Whole ROOM (length numbers.now) n room.old }
-    requires room_even { ROOM % length numbers.now ≡ 0 }
-    requires some { 0 < length numbers.now }
-    ensures { Added ROOM (length numbers.now) n numbers.now room.old result room.new }
-{
-    if n == ROOM {
-        return n;
-    }
-    let after = n + numbers.len();
-    room[n..after].copy_from_slice(numbers);
-    after
-}
-
-// The numbers that a line says of a task are kept, and those of a release.
+// Puts a task's numbers behind the n that are kept, where there is room, and returns how many are kept now.
 fn keep_row(table: &mut [u32], n: usize, l: Line) -> usize
     requires { Whole table_room task_width n table.old }
     ensures { Added table_room task_width n (row_numbers l) table.old result table.new }
 {
-    match l {
-        Line::Row {
-            period,
-            execution,
-            deadline,
-        } => keep::<TABLE_ROOM>(table, n, &[period, execution, deadline]),
-        _ => n,
+    let Line::Row {
+        period,
+        execution,
+        deadline,
+    } = l
+    else {
+        return n;
+    };
+    if n == TABLE_ROOM {
+        return n;
     }
+    table[n] = period;
+    table[n + 1] = execution;
+    table[n + 2] = deadline;
+    n + TASK_WIDTH
 }
 
+// Puts a release's numbers behind the n that are kept, where there is room, and returns how many are kept now.
 fn keep_release(trace: &mut [u32], n: usize, l: Line) -> usize
     requires { Whole trace_room release_width n trace.old }
     ensures { Added trace_room release_width n (release_numbers l) trace.old result trace.new }
 {
-    match l {
-        Line::Release { time, task } => keep::<TRACE_ROOM>(trace, n, &[time, task]),
-        _ => n,
+    let Line::Release { time, task } = l else {
+        return n;
+    };
+    if n == TRACE_ROOM {
+        return n;
     }
+    trace[n] = time;
+    trace[n + 1] = task;
+    n + RELEASE_WIDTH
 }
 
 // Reads one more line of the head after those that were read, or finds it missing where the text stops.
