@@ -1,6 +1,6 @@
 -- The release lines: between two of them, what is at fault with them all is what is at fault with those unread, and their trace is what is
 -- kept with the trace of those unread. And what they add to a case is their trace.
-use Rattle.std.specs.Prelude.{Err}
+use Rattle.std.specs.Prelude.{Ok, Err}
 use mathlib.Core.Path.{◌≡◌, refl, sym, ap, ◌∙◌}
 use mathlib.Core.List.{List, [], ◌∷◌, ◌++◌, append_assoc, append-nil}
 use Prim.Native.Nat.{ℕ, suc, ◌+◌, ◌≤◌, ◌<◌}
@@ -16,11 +16,12 @@ use Rattle.rules.specs.Reader.{kind_of, lines_of, may_follow, may_stop, case_ord
 use Rattle.rules.specs.declared.Fault.{Fault}
 use Rattle.rules.specs.declared.Line.{Line}
 use Rattle.rules.specs.declared.Line.TheVariants.{Bad, Procs, Policy, Row, End, Release}
+use Rattle.legal.specs.Firsts.{clear_checked}
 use Rattle.texts.specs.LinesOf.{end_release}
 use Rattle.texts.specs.Passing.{lines_clear}
-use Rattle.lines.specs.declared.ReleaseStep.{ReleaseStep}
-use Rattle.lines.specs.Held.{trace_room, line_fault, next_says, release_numbers, trace_of, Whole}
-use Rattle.lines.specs.Gathers.{release_fault, ReleaseRead, ReleasesRead}
+use Rattle.lines.specs.declared.Step.{Step}
+use Rattle.lines.specs.Held.{trace_room, line_fault, next_says, release_numbers, trace_of, Whole, Added}
+use Rattle.lines.specs.Gathers.{NextLine, ReleasesRead}
 use Rattle.lines.proofs.Faults.{line_follows, fault_stop}
 use Rattle.lines.proofs.Keeps.{take_clipped}
 use Rattle.lines.proofs.Reading.{unread_lines, unread_none, fault_next, fault_after}
@@ -44,35 +45,40 @@ unfolding may_follow
 released l n e = eqb-true (kind_of l) 5 (line_follows case_order 4 (kind_of l) n l (λ _. refl) e).1
 
 module _ (s : List ℕ) (at₀ n₀ at n r : ℕ) (trace : List ℕ) (w : Releasing s at₀ n₀ at n r trace) where
-  -- the next line is at fault
-  pub releasing_stop : (f : Fault) → at < length s → checked (release_fault s at n) ≡ Err f
-      → checked (lines_fault case_order 4 n₀ (lines_of (drop at₀ s))) ≡ Err f
-  releasing_stop f l e = ap checked w.fault ∙ fault_next case_order s 4 n at f l e
+  -- the next line
+  module _ (step : Step) (l : at < length s) (line : NextLine s at step) where
+    -- is at fault
+    pub releasing_stop : (f : Fault) → checked (line_fault case_order 4 (kind_of step.said) n) ≡ Err f
+        → checked (lines_fault case_order 4 n₀ (lines_of (drop at₀ s))) ≡ Err f
+    releasing_stop f e = ap checked w.fault ∙ fault_next case_order s 4 n at f l (rw line.said at e)
 
-  -- or it is read
-  pub releasing_on : (step : ReleaseStep) (trace' : List ℕ) → at < length s → ReleaseRead s at n r trace step trace'
-      → Releasing s at₀ n₀ step.next (n + 1) step.releases trace'
-  unfolding trace_of
-  releasing_on step trace' l x =
-      let said = next_says (drop at s) in
-      let new = release_numbers said in
-      let rest = trace_of (lines_of (after_line (drop at s))) in
-      let unread = lines_of (drop step.next s) in
-      record {
-        within = x.within;
-        counted = omega (arith, w.counted, x.on);
-        fault =
-            w.fault ∙ fault_after case_order s 4 n at step.next l x.clear x.unread ∙
-            ap (λ (k : ℕ). lines_fault case_order k (n + 1) unread) (released said n x.clear) ∙
-            sym (end_release (n + 1) unread);
-        kept =
-            w.kept ∙ ap (λ (ls : List Line). take trace_room (take r trace ++ trace_of ls)) (unread_lines s at l) ∙
-            ap (take trace_room) (sym (append_assoc (take r trace) new rest))
-            ∙ sym (take_clipped trace_room (take r trace ++ new) rest) ∙
-            ap (λ (z : List ℕ). take trace_room (z ++ rest)) (sym x.kept.kept) ∙
-            ap (λ (u : List ℕ). take trace_room (take step.releases trace' ++ trace_of (lines_of u))) (sym x.unread);
-        releases = x.kept.whole;
-      }
+    -- is read
+    pub releasing_on : (r' : ℕ) (trace' : List ℕ) → checked (line_fault case_order 4 (kind_of step.said) n) ≡ Ok tt
+        → Added trace_room release_width r (release_numbers step.said) trace r' trace'
+        → Releasing s at₀ n₀ step.next (n + 1) r' trace'
+    unfolding trace_of
+    releasing_on r' trace' e x =
+        let said = next_says (drop at s) in
+        let new = release_numbers said in
+        let rest = trace_of (lines_of (after_line (drop at s))) in
+        let unread = lines_of (drop step.next s) in
+        let clear = clear_checked _ (rw line.said at e) in
+        let kept = rw line.said at x.kept in
+        record {
+          within = line.within;
+          counted = omega (arith, w.counted, line.on);
+          fault =
+              w.fault ∙ fault_after case_order s 4 n at step.next l clear line.unread ∙
+              ap (λ (k : ℕ). lines_fault case_order k (n + 1) unread) (released said n clear) ∙
+              sym (end_release (n + 1) unread);
+          kept =
+              w.kept ∙ ap (λ (ls : List Line). take trace_room (take r trace ++ trace_of ls)) (unread_lines s at l) ∙
+              ap (take trace_room) (sym (append_assoc (take r trace) new rest))
+              ∙ sym (take_clipped trace_room (take r trace ++ new) rest) ∙
+              ap (λ (z : List ℕ). take trace_room (z ++ rest)) (sym kept) ∙
+              ap (λ (u : List ℕ). take trace_room (take r' trace' ++ trace_of (lines_of u))) (sym line.unread);
+          releases = x.whole;
+        }
 
   -- no line is left
   pub releasing_all : length s ≤ at → ReleasesRead s at₀ n₀ r trace

@@ -1,29 +1,14 @@
--- Laws of what `keep` stores: numbers behind those that are kept.
-use mathlib.Core.Path.{◌≡◌, refl, sym, ◌∙◌}
-use mathlib.Core.List.{List, [], ◌++◌, append-nil}
-use Prim.Native.Nat.{ℕ, suc, ◌+◌, ◌*◌, ◌/◌, ◌%◌, ◌≤◌, ◌<◌}
-use native.Mathlib.Nat.{div-add-mod, mul-le-mul_left, mul-suc}
-use native.Mathlib.Decide.{dec_le}
+-- Laws of what `keep_row` and `keep_release` store: numbers behind those that are kept.
+use mathlib.Core.Path.{◌≡◌, refl, sym, ap, ◌∙◌}
+use mathlib.Core.List.{List, [], ◌∷◌, ◌++◌, append-nil}
+use Prim.Native.Nat.{ℕ, suc, ◌+◌, ◌%◌, ◌≤◌}
+use native.Mathlib.Numerals.{add-one}
 use native.Mathlib.Omega.{arith}
-use lib.ListN.{length, take, length-append, length-take}
-use lib.Seq.{take_all, take-append-le, length-take-le}
+use lib.ListN.{length, take, drop, set, length-append, length-take}
+use lib.Seq.{take_all, take_at, take-append-le, length-take-le, sets, sets-eq, length-sets}
 use Rattle.rules.specs.declared.Line.{Line}
 use Rattle.rules.specs.declared.Line.TheVariants.{Bad, Procs, Policy, Row, End, Release}
 use Rattle.lines.specs.Held.{row_numbers, release_numbers, Whole, Added}
-
--- where a room and what is kept in it are whole numbers of tasks or releases, and it is not full, there is room for one more
-pub more_fits : (width n room : ℕ) → 0 < width → n % width ≡ 0 → room % width ≡ 0 → n < room → n + width ≤ room
-more_fits width n room some e f l =
-    let p = n / width in
-    let q = room / width in
-    let kept : width * p ≡ n = omega (arith, div-add-mod n width) in
-    let all : width * q ≡ room = omega (arith, div-add-mod room width) in
-    elim (dec_le q p) [
-      | yes h ↦ absurd (omega (arith, mul-le-mul_left width h))
-      | no h ↦
-          let less : suc p ≤ q = omega arith in
-          omega (arith, mul-le-mul_left width less, mul-suc width p)
-    ]
 
 module _ (room width n : ℕ) (old : List ℕ) (w : Whole room width n old) where
   -- the line adds nothing
@@ -46,15 +31,30 @@ module _ (room width n : ℕ) (old : List ℕ) (w : Whole room width n old) wher
       }
 
   -- the numbers are stored behind those that are kept
-  pub adds_some : (new xs : List ℕ) → length xs ≡ length old → take (n + length new) xs ≡ take n old ++ new
-      → n + length new ≤ room → (n + length new) % width ≡ 0 → Added room width n new old (n + length new) xs
-  adds_some new xs long stored l m =
+  pub adds_some : (new xs : List ℕ) (n' : ℕ) → n' ≡ n + length new → n' ≤ room → n' % width ≡ 0
+      → xs ≡ sets old n new
+      → Added room width n new old n' xs
+  adds_some new xs n' e l m q =
       let k : length (take n old) ≡ n = length-take-le n old (omega (arith, w.long, w.within)) in
-      let j : length (take n old ++ new) ≡ n + length new = length-append (take n old) new ∙ omega arith in
+      let j : length (take n old ++ new) ≡ n' = length-append (take n old) new ∙ omega arith in
       record {
-        whole = record { long = long ∙ w.long; within = l; even = m };
-        kept = stored ∙ sym (take_all room (take n old ++ new) (omega arith));
+        whole = record { long = ap length q ∙ length-sets old n new ∙ w.long; within = l; even = m };
+        kept =
+            ap (take n') (q ∙ sets-eq new old n (omega (arith, w.long))) ∙
+            take_at (take n old ++ new) (drop (n + length new) old) n' j ∙
+            sym (take_all room (take n old ++ new) (omega arith));
       }
+
+  -- a task's three numbers, and a release's two
+  pub adds_three : (new : List ℕ) (a b d : ℕ) → new ≡ a ∷ b ∷ d ∷ [] → n + 3 ≤ room → (n + 3) % width ≡ 0
+      → Added room width n new old (n + 3) (set (set (set old n a) (n + 1) b) (n + 2) d)
+  adds_three new a b d e l m =
+      let k : n + 2 ≡ suc (suc n) = omega arith in
+      rw e (adds_some (a ∷ b ∷ d ∷ []) (set (set (set old n a) (n + 1) b) (n + 2) d) (n + 3) (omega arith) l m (rw (add-one n, k)))
+
+  pub adds_two : (new : List ℕ) (a b : ℕ) → new ≡ a ∷ b ∷ [] → n + 2 ≤ room → (n + 2) % width ≡ 0
+      → Added room width n new old (n + 2) (set (set old n a) (n + 1) b)
+  adds_two new a b e l m = rw e (adds_some (a ∷ b ∷ []) (set (set old n a) (n + 1) b) (n + 2) (omega arith) l m (rw (add-one n)))
 
 -- a line of another kind adds no numbers
 pub not_row : (l : Line) → ((T C D : ℕ) → l ≡ Row T C D → ⊥) → row_numbers l ≡ []

@@ -1,4 +1,4 @@
--- What the functions that read lines promise: the next line, the lines of the head, one release line, the release lines, and the lines of
+-- What the functions that read lines promise: the next line, the lines of the head, the release lines, and the lines of
 -- a whole text (rules, Reader, `lines_fault` and `case_in`). Reading may stop after any line, for what is unread decides the rest. An `Err`
 -- tells what is at fault, and never a fault of number 0; what is read is said of an `Ok`; a lent room keeps its length in both.
 use Rattle.std.specs.Prelude.{ℕ, ◌+◌, ◌≤◌, ◌<◌, ◌≡◌, List, [], length, take, drop, Result, Ok, Err}
@@ -6,15 +6,14 @@ use Rattle.rules.specs.Limits.{task_width, release_width}
 use Rattle.rules.specs.Case.{Case}
 use Rattle.rules.specs.Refusals.{checked}
 use Rattle.rules.specs.Text.{after_line}
-use Rattle.rules.specs.Reader.{kind_of, lines_of, Order, case_order, lines_fault, policy_when_absent, with_lines, case_with_default}
+use Rattle.rules.specs.Reader.{lines_of, Order, case_order, lines_fault, policy_when_absent, with_lines, case_with_default}
 use Rattle.rules.specs.Reader.{case_in}
 use Rattle.rules.specs.declared.Fault.{Fault}
 use Rattle.kinds.specs.Says.{Opens}
 use Rattle.lines.specs.declared.Step.{Step}
 use Rattle.lines.specs.declared.HeadRead.{HeadRead}
-use Rattle.lines.specs.declared.ReleaseStep.{ReleaseStep}
 use Rattle.lines.specs.declared.Gathered.{Gathered}
-use Rattle.lines.specs.Held.{table_room, trace_room, clip, line_fault, next_says, release_numbers, trace_of, Whole, Added, kept_case}
+use Rattle.lines.specs.Held.{table_room, trace_room, clip, next_says, trace_of, Whole, kept_case}
 
 -- an answer where f is what is at fault: `Err` with just that fault, which is none of number 0, or `Ok` with a value of which P holds
 abbrev pub Told : {A : Type 0} → Fault → (A → Type 0) → Result A Fault → Type 0
@@ -55,22 +54,6 @@ pub record Heads (s : List ℕ) (r : Result HeadRead Fault) (table : List ℕ) :
   pub long : length table ≡ table_room
 
 -- ---- the release lines
--- what is at fault with line n, which starts at `at`, after `end` or a release
-abbrev pub release_fault : List ℕ → ℕ → ℕ → Fault
-release_fault s at n = line_fault case_order 4 (kind_of (next_says (drop at s))) n
-
--- that line, with nothing at fault: its numbers stand behind those that are kept
-pub record ReleaseRead (s : List ℕ) (at n releases : ℕ) (old : List ℕ) (step : ReleaseStep) (trace : List ℕ) : Type 0 where
-  pub clear : (release_fault s at n).number ≡ 0
-  pub kept : Added trace_room release_width releases (release_numbers (next_says (drop at s))) old step.releases trace
-  pub unread : drop step.next s ≡ after_line (drop at s)
-  pub on : at < step.next
-  pub within : step.next ≤ length s
-
-pub record ReleaseLine (s : List ℕ) (at n releases : ℕ) (old : List ℕ) (r : Result ReleaseStep Fault) (trace : List ℕ) : Type 0 where
-  pub told : Told (release_fault s at n) (λ step. ReleaseRead s at n releases old step trace) r
-  pub long : length trace ≡ trace_room
-
 -- all lines from line n on, which starts at `at`, with nothing at fault: so many release numbers were kept, and the trace that the lines
 -- say is those, as far as it matters
 pub record ReleasesRead (s : List ℕ) (at n releases : ℕ) (trace : List ℕ) : Type 0 where

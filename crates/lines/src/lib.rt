@@ -2,7 +2,7 @@
 // the case that the lines say, kept as far as it matters.
 #![tactic(auto)]
 
-ghost use Rattle.std.specs.Prelude.{◌≡◌, ℕ, ◌+◌, ◌%◌, ◌≤◌, ◌<◌, List, length};
+ghost use Rattle.std.specs.Prelude.{◌≡◌, ℕ, ◌+◌, ◌≤◌, ◌<◌, List, length};
 ghost use Rattle.std.specs.Fn.{FnReturnsAt};
 ghost use Rattle.rules.specs.Limits.{max_text, task_width, release_width};
 ghost use Rattle.rules.specs.Refusals.{checked};
@@ -11,7 +11,7 @@ ghost use Rattle.kinds.specs.declared.Said.{Said};
 ghost use Rattle.kinds.specs.Says.{Opens, Says};
 ghost use Rattle.lines.specs.Held.{table_room, trace_room, line_fault, no_head, no_lines, head_with, row_numbers, release_numbers, Whole};
 ghost use Rattle.lines.specs.Held.{Added};
-ghost use Rattle.lines.specs.Gathers.{NextLine, InHead, HeadLine, Heads, ReleaseLine, Releases, Gathers};
+ghost use Rattle.lines.specs.Gathers.{NextLine, InHead, HeadLine, Heads, Releases, Gathers};
 
 use faults::refuse_unless;
 use kinds::Said;
@@ -35,13 +35,6 @@ pub struct Head {
 pub struct Step {
     pub kind: u32,
     pub said: Line,
-    pub next: usize,
-}
-
-// A release line: how many release numbers are kept after it, and where the next line starts.
-#[derive(Clone, Copy)]
-pub struct ReleaseStep {
-    pub releases: usize,
     pub next: usize,
 }
 
@@ -134,44 +127,42 @@ fn head_with(h: Head, l: Line) -> Head
     }
 }
 
-// Puts the numbers of a task or a release behind the n that are kept, where there is room, and returns how many are kept now.
-fn keep(room: &mut [u32], n: usize, numbers: &[u32]) -> usize
-    requires whole { Whole (length room.old) (length numbers.now) n room.old }
-    requires room_even { length room.old % length numbers.now ≡ 0 }
-    requires some { 0 < length numbers.now }
-    ensures { Added (length room.old) (length numbers.now) n numbers.now room.old result room.new }
-{
-    if n == room.len() {
-        return n;
-    }
-    let after = n + numbers.len();
-    room[n..after].copy_from_slice(numbers);
-    after
-}
-
-// The numbers that a line says of a task are kept, and those of a release.
+// Puts a task's numbers behind the n that are kept, where there is room, and returns how many are kept now.
 fn keep_row(table: &mut [u32], n: usize, l: Line) -> usize
     requires { Whole table_room task_width n table.old }
     ensures { Added table_room task_width n (row_numbers l) table.old result table.new }
 {
-    match l {
-        Line::Row {
-            period,
-            execution,
-            deadline,
-        } => keep(table, n, &[period, execution, deadline]),
-        _ => n,
+    let Line::Row {
+        period,
+        execution,
+        deadline,
+    } = l
+    else {
+        return n;
+    };
+    if n == TABLE_ROOM {
+        return n;
     }
+    table[n] = period;
+    table[n + 1] = execution;
+    table[n + 2] = deadline;
+    n + TASK_WIDTH
 }
 
+// Puts a release's numbers behind the n that are kept, where there is room, and returns how many are kept now.
 fn keep_release(trace: &mut [u32], n: usize, l: Line) -> usize
     requires { Whole trace_room release_width n trace.old }
     ensures { Added trace_room release_width n (release_numbers l) trace.old result trace.new }
 {
-    match l {
-        Line::Release { time, task } => keep(trace, n, &[time, task]),
-        _ => n,
+    let Line::Release { time, task } = l else {
+        return n;
+    };
+    if n == TRACE_ROOM {
+        return n;
     }
+    trace[n] = time;
+    trace[n + 1] = task;
+    n + RELEASE_WIDTH
 }
 
 // Reads one more line of the head after those that were read, or finds it missing where the text stops.
@@ -206,27 +197,6 @@ pub fn read_head(text: &[u8], table: &mut [u32]) -> Result<HeadRead, Fault>
     Ok(top)
 }
 
-// Reads line n, which starts at `at`, as a release line, and puts its numbers behind those that are kept.
-pub fn release_line(
-    text: &[u8],
-    at: usize,
-    n: u32,
-    trace: &mut [u32],
-    releases: usize,
-) -> Result<ReleaseStep, Fault>
-    requires at_in_bounds { at < length text.now }
-    requires whole { Whole trace_room release_width releases trace.old }
-    ensures { ReleaseLine text.now at n releases trace.old result trace.new }
-{
-    // most likely a release, so that word is looked for first
-    let step = next_line(text, at, kinds::release_says);
-    line_fault(END, step.kind, step.said, n)?;
-    Ok(ReleaseStep {
-        releases: keep_release(trace, releases, step.said),
-        next: step.next,
-    })
-}
-
 // Reads the release lines, of which the first is line n and starts at `at`: the smallest one at fault, or how many release numbers were
 // kept.
 pub fn read_releases(text: &[u8], at: usize, n: u32, trace: &mut [u32]) -> Result<usize, Fault>
@@ -240,8 +210,10 @@ pub fn read_releases(text: &[u8], at: usize, n: u32, trace: &mut [u32]) -> Resul
     let mut line = n;
     let mut next = at;
     while next < text.len() {
-        let step = release_line(text, next, line, trace, releases)?;
-        releases = step.releases;
+        // most likely a release, so that word is looked for first
+        let step = next_line(text, next, kinds::release_says);
+        line_fault(END, step.kind, step.said, line)?;
+        releases = keep_release(trace, releases, step.said);
         line += 1;
         next = step.next;
     }
