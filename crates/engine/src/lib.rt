@@ -15,6 +15,7 @@ use rules::{Fault, MAX_TASKS, Totals};
 // ---- the replay
 
 // The replay of an accepted case, into room that is long enough: the records, and their totals.
+#[tactic(auto, using(crate::proofs::Calls::replayed))]
 fn replay_run(accepted: &AcceptedCase, out: &mut [u32]) -> Totals
     requires { release_count accepted.now.trace * record_width ≤ length out.old }
     ensures records { out.new ≡ room_after accepted.now out.old }
@@ -41,6 +42,7 @@ pub fn replay(case: Case, out: &mut [u32]) -> Result<Totals, Fault>
 // ---- the running set
 
 // A set as a number: bit i for the task at i.
+#[tactic(auto, using(crate::proofs::Powers::doubling_none), unfolding(rules::specs::Slot::set_number))]
 fn set_number(set: &[bool; MAX_TASKS]) -> u32
     ensures { result ≡ set_number (λ i. get_or set.now i false) }
 {
