@@ -22,6 +22,10 @@ use Rattle.slots.specs.Rooms.{same_room, room_open}
 abbrev marked_there : List ℕ → ℕ → ℕ → ℕ
 marked_there out n v = count_in (λ j. eqb (get_or out (j * record_width) 0) v) 0 n
 
+-- an accepted case has few releases
+pub few : (c : Case) → Accepted c → (n : ℕ) → n ≡ release_count c.trace → n ≤ max_releases
+few c ok n is = rw is (legal c ok).releases_few
+
 -- a case that is accepted, and the number of its releases; the open records are laid
 module _ (c : Case) (ok : Accepted c) (n : ℕ) (is : n ≡ release_count c.trace) (room opened : List ℕ)
     (o : opened ≡ numbers (tab (λ j. open_record) 0 n) ++ drop (n * record_width) room) where
@@ -38,14 +42,12 @@ module _ (c : Case) (ok : Accepted c) (n : ℕ) (is : n ≡ release_count c.trac
     unfolding room_after
     walked = w ∙ same_room c 0 c.end room opened laid
 
-    -- they are in bounds, and few
-    pub readable : (n * record_width ≤ length out) × (n ≤ max_releases)
+    -- they are in bounds
+    pub in_bounds : n * record_width ≤ length out
     unfolding room_after
-    readable =
-        let a = ap length walked ∙ length-append (numbers (records c)) (drop (release_count c.trace * record_width) room) in (
-          rw is (omega (arith, a, numbers_long (records c), tab_long (record_by c c.end) 0 (release_count c.trace))),
-          rw is (legal c ok).releases_few,
-        )
+    in_bounds =
+        let a = ap length walked ∙ length-append (numbers (records c)) (drop (release_count c.trace * record_width) room) in
+        rw is (omega (arith, a, numbers_long (records c), tab_long (record_by c c.end) 0 (release_count c.trace)))
 
     total : (v m : ℕ) → m ≡ marked_there out n v → m ≡ marked v (records c)
     unfolding room_after
@@ -57,3 +59,6 @@ module _ (c : Case) (ok : Accepted c) (n : ℕ) (is : n ≡ release_count c.trac
     pub totals : (met missed others : ℕ) → met ≡ marked_there out n 1 → missed ≡ marked_there out n 2 → others ≡ marked_there out n 3
         → ◌≡◌ {A = List ℕ} (met ∷ missed ∷ others ∷ []) (met_jobs c ∷ missed_jobs c ∷ open_jobs c ∷ [])
     totals met missed others p q r = rw (total 1 met p, total 2 missed q, total 3 others r) refl
+
+-- for the proof of the replay
+pub ruleset replayed = (few, begins, walked, in_bounds)

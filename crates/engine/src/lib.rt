@@ -15,7 +15,8 @@ use rules::{Fault, MAX_TASKS, Totals};
 // ---- the replay
 
 // The replay of an accepted case, into room that is long enough: the records, and their totals.
-pub fn replay_run(accepted: &AcceptedCase, out: &mut [u32]) -> Totals
+#[tactic(auto, using(crate::proofs::Calls::replayed))]
+pub pub fn replay_run(accepted: &AcceptedCase, out: &mut [u32]) -> Totals
     requires { release_count accepted.now.trace * record_width ≤ length out.old }
     ensures records { out.new ≡ room_after accepted.now out.old }
     ensures totals { total_values result ≡ met_jobs accepted.now ∷ missed_jobs accepted.now ∷ open_jobs accepted.now ∷ [] }
@@ -41,6 +42,7 @@ pub fn replay(case: Case, out: &mut [u32]) -> Result<Totals, Fault>
 // ---- the running set
 
 // A set as a number: bit i for the task at i.
+#[tactic(auto, using(crate::proofs::Powers::doubling_none), unfolding(rules::specs::Slot::set_number))]
 fn set_number(set: &[bool; MAX_TASKS]) -> u32
     ensures { result ≡ set_number (λ i. get_or set.now i false) }
 {
