@@ -16,7 +16,7 @@ ghost use Rattle.counts.specs.Needs.{Counts};
 ghost use Rattle.feeds.specs.Feed.{Feed, opening, formed_heard, names_heard, feed, fed_fault};
 ghost use Rattle.slot.specs.Calm.{Ahead};
 ghost use Rattle.heard.specs.Scans.{ended_as};
-ghost use Rattle.follow.specs.Follows.{log_of, Follows, Followed, Openable, Opens};
+ghost use Rattle.follow.specs.Follows.{Follows, Followed, Openable, Opens};
 
 use cases::{AcceptedCase, Case};
 use heard::{Ended, Scan};
