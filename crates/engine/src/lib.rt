@@ -16,7 +16,7 @@ use rules::{Fault, MAX_TASKS, Totals};
 
 // The replay of an accepted case, into room that is long enough: the records, and their totals.
 #[tactic(auto, using(crate::proofs::Calls::replayed))]
-pub pub fn replay_run(accepted: &AcceptedCase, out: &mut [u32]) -> Totals
+pub fn replay_run(accepted: &AcceptedCase, out: &mut [u32]) -> Totals
     requires { release_count accepted.now.trace * record_width ≤ length out.old }
     ensures records { out.new ≡ room_after accepted.now out.old }
     ensures totals { total_values result ≡ met_jobs accepted.now ∷ missed_jobs accepted.now ∷ open_jobs accepted.now ∷ [] }
