@@ -1,6 +1,6 @@
 -- What is said of a text by the case that was read of it, or by what is at fault with it.
 use Rattle.std.specs.Prelude.{Result, Ok, Err}
-use mathlib.Core.Path.{◌≡◌, refl, sym, ap, ◌∙◌}
+use mathlib.Core.Path.{◌≡◌, refl, sym, ◌∙◌}
 use mathlib.Core.List.{List, []}
 use Prim.Native.Nat.{ℕ}
 use native.Mathlib.Omega.{arith}
@@ -10,7 +10,6 @@ use Rattle.rules.specs.Case.{Case}
 use Rattle.rules.specs.Refusals.{unless_fault}
 use Rattle.rules.specs.Answers.{answer_as}
 use Rattle.rules.specs.Reader.{case_in, case_values, text_fault}
-use Rattle.rules.specs.Report.{refused_line}
 use Rattle.legal.specs.Firsts.{clear_checked, given_clear, given_fault}
 use Rattle.legal.specs.Settled.{checked_fault}
 use Rattle.puts.proofs.Puts.{laid_none}

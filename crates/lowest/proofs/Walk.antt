@@ -1,7 +1,7 @@
 -- The walk over the releases that checks them, apart from the code.
 use Rattle.std.specs.Prelude.{Result, Ok, Err}
 use mathlib.Core.Path.{◌≡◌, refl, ap, sym, ◌∙◌}
-use mathlib.Core.Bool.{Bool, true, false, ◌&&◌, false≢true}
+use mathlib.Core.Bool.{Bool, true, false}
 use mathlib.Core.List.{List, [], ◌∷◌}
 use Prim.Native.Nat.{ℕ, zero, suc, ◌+◌, ◌-◌, ◌≤◌, ◌<◌}
 use native.Mathlib.Numerals.{add-one}
@@ -14,12 +14,11 @@ use Rattle.rules.specs.declared.Fault.{Fault}
 use Rattle.rules.specs.Words.{pick, bit, sum, count_in}
 use Rattle.rules.specs.Limits.{max_tasks, max_end}
 use Rattle.rules.specs.Case.{task_count, period, release_count, time_of, name_of}
-use Rattle.rules.specs.Refusals.{fault_of, no_fault, checked, unless, or_next, first, first_of, named, in_order, apart, last_before, release_fault}
+use Rattle.rules.specs.Refusals.{fault_of, checked, unless, or_next, first, first_of, named, in_order, apart, last_before, release_fault}
 use Rattle.rules.specs.Refusals.{releases_fault, absent_fault, absences_fault}
 use Rattle.lists.specs.Lists.{tab_at, tab-set}
-use Rattle.lists.specs.Tests.{and_left, and_right}
 use Rattle.legal.specs.Firsts.{none_yet, refused, clear_checked, checked_next, checked_one, fault_gives, given_clear, many_more, many_stop, first-same}
-use Rattle.legal.specs.Passing.{named_clear, Released, release_clear, release_none}
+use Rattle.legal.specs.Passing.{named_clear, Released, release_clear}
 use Rattle.lowest.specs.Needs.{lasts, Early, releases_tested, unkept_fault}
 
 -- a test that is passed holds

@@ -2,15 +2,15 @@
 use mathlib.Core.Path.{◌≡◌, refl, sym, ap, ◌∙◌}
 use mathlib.Core.Bool.{Bool, true, false}
 use mathlib.Core.List.{List, [], ◌∷◌}
-use Prim.Native.Nat.{ℕ, ◌*◌, ◌≤◌}
+use Prim.Native.Nat.{ℕ, ◌≤◌}
 use native.Mathlib.Omega.{arith}
 use lib.Dec.{ltb}
 use lib.ListN.{get_or}
 use Rattle.rules.specs.Words.{pick}
 use Rattle.rules.specs.declared.Fault.{Fault}
-use Rattle.rules.specs.Limits.{max_tasks, max_releases, record_width}
-use Rattle.rules.specs.Case.{Case, release_count}
-use Rattle.rules.specs.Refusals.{fault_of, no_fault, unless, room_fault, slot_fault, case_fault, counts_tests, counts_fault, replay_fault}
+use Rattle.rules.specs.Limits.{max_tasks}
+use Rattle.rules.specs.Case.{Case}
+use Rattle.rules.specs.Refusals.{fault_of, no_fault, unless, slot_fault, case_fault, counts_tests, counts_fault}
 use Rattle.rules.specs.Refusals.{running_fault, Accepted}
 use Rattle.rules.specs.Answers.{Answer, refusal, result, settled}
 use Rattle.rules.specs.Replay.{running_set}

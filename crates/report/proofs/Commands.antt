@@ -1,7 +1,6 @@
 -- What a command prints once the answer of the call that it rests on is known by its case.
 use Rattle.std.specs.Prelude.{Result, Ok, Err}
 use Rattle.rules.specs.declared.Fault.{Fault}
-use Rattle.rules.specs.declared.Totals.{Totals}
 use mathlib.Core.Path.{◌≡◌, sym, ap, ◌∙◌}
 use mathlib.Core.List.{List, [], ◌∷◌, ◌++◌}
 use Prim.Native.Nat.{ℕ, ◌+◌, ◌≤◌, ◌<◌}
@@ -12,10 +11,9 @@ use lib.Seq.{sets, sets-eq}
 use Rattle.rules.specs.Limits.{max_tasks}
 use Rattle.rules.specs.Case.{Case, task_count}
 use Rattle.rules.specs.Counts.{free_count, free_counts}
-use Rattle.rules.specs.Refusals.{counts_fault, replay_fault, Accepted}
-use Rattle.rules.specs.Answers.{counted_as, replayed_as, running_as, written_as}
-use Rattle.rules.specs.Replay.{met_jobs, missed_jobs, open_jobs}
-use Rattle.rules.specs.Calls.{counts_answer, counts_room, replay_answer, running_answer}
+use Rattle.rules.specs.Refusals.{counts_fault, Accepted}
+use Rattle.rules.specs.Answers.{counted_as, running_as, written_as}
+use Rattle.rules.specs.Calls.{counts_answer, counts_room, running_answer}
 use Rattle.rules.specs.Writer.{joined_text, case_text, write_fault, write_answer, write_bytes}
 use Rattle.rules.specs.Report.{refused_line}
 use Rattle.lists.specs.Lists.{tab_long, tab_at, tab_front, tab_cong}

@@ -7,15 +7,14 @@ use lib.ListN.{length, get_or, drop, length-append}
 use Rattle.rules.specs.Words.{tab}
 use Rattle.rules.specs.Limits.{record_width}
 use Rattle.rules.specs.Case.{Case, task_count, release_count, time_of, name_of, deadline}
-use Rattle.rules.specs.Refusals.{replay_fault, Accepted}
+use Rattle.rules.specs.Refusals.{Accepted}
 use Rattle.rules.specs.Replay.{record_by, records, numbers, met_jobs, missed_jobs, open_jobs}
-use Rattle.rules.specs.Calls.{room_after, replay_room}
+use Rattle.rules.specs.Calls.{room_after}
 use Rattle.rules.specs.Writer.{joined_text}
 use Rattle.rules.specs.Report.{job_line, total_line, release_line, report}
 use Rattle.lists.specs.Lists.{tab_long, tab_cong}
 use Rattle.bridge.specs.Notes.{numbers_long, held}
 use Rattle.legal.specs.Legal.{legal}
-use Rattle.legal.specs.Settled.{kept_new}
 use Rattle.puts.specs.Laid.{Laid}
 use Rattle.puts.proofs.Puts.{laid_then}
 use Rattle.prints.specs.Lines.{run_text, total_text}

@@ -1,5 +1,4 @@
 -- `answers::put_wish` meets its contract: each wish is answered by its writer.
-use Rattle.std.proofs.Common.{sym, ◌∙◌}
 use Rattle.answers.specs.Prints.{case_says}
 use Rattle.report.proofs.Answers.{counts_fits}
 use Rattle.answers.proofs.Said.{wish_shown}

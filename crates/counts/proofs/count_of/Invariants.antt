@@ -1,6 +1,6 @@
 -- `counts::count_of` meets its contract.
 use mathlib.Core.Path.{◌≡◌}
-use Prim.Native.Nat.{◌-◌, ◌*◌, ◌≤◌}
+use Prim.Native.Nat.{◌*◌, ◌≤◌}
 use Rattle.rules.specs.Words.{sum}
 use Rattle.rules.specs.Case.{period, deadline}
 use Rattle.rules.specs.Counts.{availability}

@@ -1,5 +1,4 @@
 -- `counts::put_counts` meets its contract: the loop lays the free counts over what the slice held.
-use Prim.Native.Nat.{◌-◌, ◌≤◌}
 use Rattle.rules.specs.Counts.{free_count}
 use Rattle.lists.specs.Fill.{Laying}
 use Rattle.counts.proofs.put_counts.Given as goal

@@ -1,11 +1,10 @@
 -- `lowest::releases_fault` meets its contract.
-use Rattle.std.proofs.Common.{rules, arith, sym, ◌∙◌, ◌≤◌, ◌<◌}
+use Rattle.std.proofs.Common.{arith, sym, ◌∙◌, ◌≤◌, ◌<◌}
 use Rattle.std.proofs.lemmas.Result.{err_from_is_err_and}
 use Rattle.rules.specs.Words.{tab}
 use Rattle.rules.specs.Limits.{max_tasks, max_end}
-use Rattle.rules.specs.Case.{time_of, name_of}
 use Rattle.rules.specs.Refusals.{last_before}
-use Rattle.lowest.proofs.Walk.{passed, checked_none, checked_more, checked_all, checked_hit}
+use Rattle.lowest.proofs.Walk.{passed, checked_none, checked_more, checked_hit}
 use Rattle.lowest.proofs.releases_fault.Goals as goal
 
 pub loop-j-init : goal.loop-j-init

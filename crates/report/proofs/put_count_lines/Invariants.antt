@@ -1,5 +1,4 @@
 -- `report::put_count_lines` meets its contract: the lines of the tasks passed are laid, each in the part from the present end on.
-use Prim.Native.Nat.{◌-◌, ◌≤◌}
 use Rattle.prints.specs.Lines.{line_room}
 use Rattle.report.specs.Cases.{count_text, Listed}
 use Rattle.report.proofs.put_count_lines.Given as goal

@@ -1,6 +1,4 @@
 -- `report::put_jobs` meets its contract: the lines of the releases passed are laid, each in the part from the present end on.
-use Prim.Native.Nat.{◌-◌, ◌≤◌}
-use Rattle.rules.specs.Case.{release_count}
 use Rattle.prints.specs.Lines.{job_room}
 use Rattle.report.specs.Cases.{job_text, Listed}
 use Rattle.report.proofs.put_jobs.Given as goal

@@ -1,5 +1,4 @@
 -- `report::put_slot` meets its contract.
-use Rattle.std.proofs.Common.{sym, ◌∙◌}
 use Rattle.report.proofs.Commands.{slot_no, slot_yes}
 use Rattle.report.proofs.put_slot.Goals as goal
 

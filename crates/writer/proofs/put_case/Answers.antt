@@ -1,5 +1,5 @@
 -- `writer::put_case` meets its contract: the three parts of the text, one behind the other.
-use Rattle.std.proofs.Common.{◌+◌, ◌≤◌, ap, sym, ◌++◌, length, arith, length-append, ℕ, List}
+use Rattle.std.proofs.Common.{◌+◌, ◌≤◌, ap, ◌++◌, length, arith, length-append, ℕ, List}
 use Rattle.rules.specs.Case.{task_count, case_of}
 use Rattle.rules.specs.Limits.{task_width}
 use Rattle.rules.specs.Writer.{case_text}

@@ -1,5 +1,4 @@
 -- `writer::put_rows` meets its contract: the rows passed are laid, each in the part from the present end on.
-use Prim.Native.Nat.{◌-◌, ◌≤◌}
 use mathlib.Core.Path.{◌≡◌}
 use lib.ListN.{length}
 use Rattle.puts.specs.Laid.{Laid}

@@ -1,7 +1,6 @@
 -- `writer::write` meets its contract: a case at fault, no room, or the text.
-use Rattle.std.proofs.Common.{sym, ap, ◌∙◌, length}
+use Rattle.std.proofs.Common.{sym, ◌∙◌}
 use Rattle.std.proofs.lemmas.Result.{err_from_is_err_and}
-use Rattle.rules.specs.Refusals.{checked, room_fault}
 use Rattle.legal.specs.Firsts.{clear_checked}
 use Rattle.legal.specs.Passing.{room_clear}
 use Rattle.writer.proofs.Answers.{whole, case_at_fault, then_room, refused, written}
