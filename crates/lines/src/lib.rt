@@ -149,7 +149,8 @@ fn keep_row(table: &mut [u32], n: usize, l: Line) -> usize
     n + TASK_WIDTH
 }
 
-// Puts a release's numbers behind the n that are kept, where there is room, and returns how many are kept now.
+// Puts a release's numbers behind the n that are kept, where there is room, and returns how many are kept now. It is asked of nearly every
+// line: one copy of a slice, shared with `keep_row`, would cost the reader a tenth of its time.
 fn keep_release(trace: &mut [u32], n: usize, l: Line) -> usize
     requires { Whole trace_room release_width n trace.old }
     ensures { Added trace_room release_width n (release_numbers l) trace.old result trace.new }
