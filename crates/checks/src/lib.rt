@@ -80,10 +80,8 @@ pub fn accept_replay<'a>(case: Case<'a>, room: usize) -> Result<AcceptedCase<'a>
     ensures { result ≡ unless_fault (replay_fault case.entry room) case.entry }
 {
     let replayed = accept(case)?;
-    faults::room_fault(
-        cases::release_count(replayed.case.trace) * RECORD_WIDTH,
-        room,
-    )?;
+    let need = cases::release_count(replayed.case.trace) * RECORD_WIDTH;
+    faults::room_fault(need, room)?;
     Ok(replayed)
 }
 

@@ -1,5 +1,5 @@
 -- What is answered and written are those of the text that came, which is the front of the input.
-use Rattle.std.proofs.Common.{ℕ, rules, sym, ap, ◌∙◌, subst}
+use Rattle.std.proofs.Common.{ℕ, rules, subst}
 use Rattle.std.proofs.lemmas.Result.{IfOk-at_ok}
 use lib.ListN.{length-replicate}
 use Rattle.std.specs.Io.KnownBytes.{Appends}
