@@ -72,7 +72,8 @@ read_converted s tasks releases h f p q =
     (read_as (converted s) tasks releases (rw (read_roomy (converted s) _ _ p q) f)
     (legal (case_in (converted s)) (case_accepted (converted s) f)))
 
-pub read_what_was_converted : (s bytes : List ℕ) (w : Result ℕ Fault) (later : List ℕ) (n : ℕ) (tasks releases : List ℕ) (r : Result Taken Fault)
+pub read_what_was_converted : (s bytes : List ℕ) (w : Result ℕ Fault) (later : List ℕ) (n : ℕ)
+    (tasks releases : List ℕ) (r : Result Taken Fault)
     (ts rs : List ℕ)
     → ConvertPromise s bytes w later
     → written_as w ≡ result (n ∷ [])

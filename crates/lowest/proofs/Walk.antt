@@ -17,7 +17,8 @@ use Rattle.rules.specs.Case.{task_count, period, release_count, time_of, name_of
 use Rattle.rules.specs.Refusals.{fault_of, checked, unless, or_next, first, first_of, named, in_order, apart, last_before, release_fault}
 use Rattle.rules.specs.Refusals.{releases_fault, absent_fault, absences_fault}
 use Rattle.lists.specs.Lists.{tab_at, tab-set}
-use Rattle.legal.specs.Firsts.{none_yet, refused, clear_checked, checked_next, checked_one, fault_gives, given_clear, many_more, many_stop, first-same}
+use Rattle.legal.specs.Firsts.{none_yet, refused, clear_checked, checked_next, checked_one, fault_gives, given_clear, many_more, many_stop}
+use Rattle.legal.specs.Firsts.{first-same}
 use Rattle.legal.specs.Passing.{named_clear, Released, release_clear}
 use Rattle.lowest.specs.Needs.{lasts, Early, releases_tested, unkept_fault}
 
@@ -31,7 +32,8 @@ pub last_test : (ts : List ℕ) (e : ℕ) (rs : List ℕ) (j : ℕ) (far : Bool)
     → in_order rs j ≡ true → far ≡ apart (last_before rs j (name_of rs j)) (period ts (name_of rs j - 1)) (time_of rs j)
     → pick far (Ok tt) (Err (fault_of 10 (j + 1))) ≡ checked (release_fault ts e rs j)
 unfolding release_fault or_next
-last_test ts e rs j far a b d q = rw (a, b, d, ← q, add-one j) (refused far 10 (suc j) (omega arith) ∙ sym (checked_one (unless far 10 (suc j))))
+last_test ts e rs j far a b d q =
+    rw (a, b, d, ← q, add-one j) (refused far 10 (suc j) (omega arith) ∙ sym (checked_one (unless far 10 (suc j))))
 
 -- what stands in the array of last releases
 pub last_at : (rs last : List ℕ) (j name : ℕ) → last ≡ lasts rs j → 1 ≤ name → name ≤ max_tasks

@@ -88,7 +88,9 @@ module _ (c : Case) (old : List ℕ) (ok : Accepted c) (room : print_room ≤ le
     (h : written_as x ≡ write_answer c old) where
   pub write_accepts : (g : Fault) → x ≡ Err g → ⊥
   unfolding write_answer
-  write_accepts g e = never_refused (write_fault c (length old)) _ g.number g.place (write_fits c (length old) ok room) (sym (ap written_as e) ∙ h)
+  write_accepts g e =
+      let fits = write_fits c (length old) ok room in
+      never_refused (write_fault c (length old)) _ g.number g.place fits (sym (ap written_as e) ∙ h)
 
   pub text_shown : (k : ℕ) → x ≡ Ok k → (new : List ℕ) → new ≡ write_bytes c old
       → Printed print_room (case_text c) old new k

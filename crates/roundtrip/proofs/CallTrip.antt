@@ -37,7 +37,8 @@ write_read s tasks releases vs room h p =
     p))))
 
 -- writing what was read gives the text with its policy line where it was absent and without its returns
-pub written_what_was_read : (s tasks releases : List ℕ) (r : Result Taken Fault) (ts rs vs bytes : List ℕ) (w : Result ℕ Fault) (later : List ℕ)
+pub written_what_was_read : (s tasks releases : List ℕ) (r : Result Taken Fault) (ts rs vs bytes : List ℕ)
+    (w : Result ℕ Fault) (later : List ℕ)
     → ReadPromise s tasks releases r ts rs
     → taken_as r ≡ result vs
     → length (with_policy (without_returns s)) ≤ length bytes

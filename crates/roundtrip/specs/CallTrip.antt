@@ -100,7 +100,8 @@ pub record Wrote (s bytes : List ℕ) (w : Result ℕ Fault) (later : List ℕ) 
   pub bytes_after : later ≡ s ++ drop (length s) bytes
 
 -- reading what the writer wrote gives the same case
-pub read_what_was_written : (c : Case) (bytes : List ℕ) (w : Result ℕ Fault) (later : List ℕ) (n : ℕ) (tasks releases : List ℕ) (r : Result Taken Fault)
+pub read_what_was_written : (c : Case) (bytes : List ℕ) (w : Result ℕ Fault) (later : List ℕ) (n : ℕ)
+    (tasks releases : List ℕ) (r : Result Taken Fault)
     (ts rs : List ℕ)
     → WritePromise c bytes w later
     → written_as w ≡ result (n ∷ [])

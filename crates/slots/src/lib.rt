@@ -92,8 +92,10 @@ pub fn walk(accepted: &AcceptedCase, until: u32, noting: bool, out: &mut [u32]) 
     ensures { LastRan accepted.now until result × (noting ≡ true → out.new ≡ room_at accepted.now until out.old) }
 {
     let case = &accepted.case;
+    let procs = case.procs;
+    let policy = case.policy;
     let mut counts = [0; MAX_TASKS];
-    let mut run = start(case.procs, case.table, &mut counts);
+    let mut run = start(procs, case.table, &mut counts);
     let mut place = [0; MAX_TASKS];
     let mut next = 0;
     let mut jobs = 0;
@@ -110,8 +112,8 @@ pub fn walk(accepted: &AcceptedCase, until: u32, noting: bool, out: &mut [u32]) 
             next = pass_releases(case.trace, next, clock, &mut place, &mut released);
             run = slot::settle(
                 run,
-                case.procs,
-                case.policy,
+                procs,
+                policy,
                 case.table,
                 &counts,
                 &released,
@@ -121,17 +123,8 @@ pub fn walk(accepted: &AcceptedCase, until: u32, noting: bool, out: &mut [u32]) 
                 &mut demoted,
                 &mut ran,
             );
-            bound = choice::choose(run, case.procs, case.policy, clock, jobs, bound, &mut ran);
-            run = slot::work(
-                run,
-                case.procs,
-                case.policy,
-                clock,
-                jobs,
-                &ran,
-                &mut done,
-                &mut late,
-            );
+            bound = choice::choose(run, procs, policy, clock, jobs, bound, &mut ran);
+            run = slot::work(run, procs, policy, clock, jobs, &ran, &mut done, &mut late);
             if noting {
                 notes::note_slot(out, &place, &done, &demoted, &late, clock);
             }

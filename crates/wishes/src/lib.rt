@@ -1,9 +1,11 @@
 // What the words of the command line ask, and what is at fault in that.
 #![tactic(auto)]
 
-ghost use Rattle.std.specs.Prelude.{◌≡◌};
+ghost use Rattle.std.specs.Prelude.{◌≡◌, true};
+ghost use Rattle.rules.specs.Words.{pick};
+ghost use Rattle.rules.specs.Text.{number_in};
 ghost use Rattle.wishes.specs.Asks.{asked_of, word_asks, slot_asks, log_asks, is_quiet, one_asks, two_ask, three_ask, words_ask, is_known};
-ghost use Rattle.wishes.specs.Asks.{asked_fault};
+ghost use Rattle.wishes.specs.Asks.{asked_fault, is_number, is_asked};
 ghost use Rattle.rules.specs.Refusals.{checked};
 
 use rules::Fault;
@@ -144,16 +146,23 @@ pub fn words_ask(words: usize, first: &[u8], second: &[u8], third: &[u8]) -> Ask
     }
 }
 
+// Whether a word is a number, as behind `slot`, or asks for something alone.
+#[tactic(auto, unfolding(crate::specs::Asks::is_number, crate::specs::Asks::is_asked))]
+fn asks(word: &[u8]) -> bool
+    ensures { result ≡ pick (is_number (number_in word.now)) true (is_asked (word_asks word.now)) }
+{
+    scan::number(word).is_some() || !matches!(alone(word), Wish::Unknown)
+}
+
 // Whether a word is one of the command line's, wherever it stands.
-#[tactic(auto, unfolding(crate::specs::Asks::is_known, crate::specs::Asks::is_number, crate::specs::Asks::is_asked, reasons::specs::Reasons::words, reasons::specs::Reasons::sign_bytes))]
+#[tactic(auto, unfolding(crate::specs::Asks::is_known, reasons::specs::Reasons::words, reasons::specs::Reasons::sign_bytes))]
 pub fn is_known(word: &[u8]) -> bool
     ensures { result ≡ is_known word.now }
 {
     is_quiet(word)
         || words::same_bytes(word, b"slot")
         || words::same_bytes(word, b"log")
-        || scan::number(word).is_some()
-        || !matches!(alone(word), Wish::Unknown)
+        || asks(word)
 }
 
 // What is at fault in what a wish asks of an accepted case that ends there.

@@ -15,10 +15,12 @@ loop-i-init c = rw (rows_none _ _ _) (refl, laid_none _ _)
 
 -- the line of a row has room in the unused end
 pub slice_bounds-put_line-count : goal.slice_bounds-put_line-count
-slice_bounds-put_line-count c = omega (arith, c.loop-i.invariant.1.behind, rows_le c.args.word c.args.width c.args.vs.now c.loop-i.i c.args.rows c.loop-i-test.true)
+slice_bounds-put_line-count c =
+    omega (arith, c.loop-i.invariant.1.behind, rows_le c.args.word c.args.width c.args.vs.now c.loop-i.i c.args.rows c.loop-i-test.true)
 
 pub slice_bounds-put_line-start : goal.slice_bounds-put_line-start
-slice_bounds-put_line-start c = omega (arith, c.loop-i.invariant.1.behind, rows_le c.args.word c.args.width c.args.vs.now c.loop-i.i c.args.rows c.loop-i-test.true)
+slice_bounds-put_line-start c =
+    omega (arith, c.loop-i.invariant.1.behind, rows_le c.args.word c.args.width c.args.vs.now c.loop-i.i c.args.rows c.loop-i-test.true)
 
 pub put_line-end-requires : goal.put_line-end-requires
 put_line-end-requires c =
