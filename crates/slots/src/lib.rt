@@ -92,7 +92,7 @@ pub fn walk(accepted: &AcceptedCase, until: u32, noting: bool, out: &mut [u32]) 
     ensures { LastRan accepted.now until result × (noting ≡ true → out.new ≡ room_at accepted.now until out.old) }
 {
     let case = &accepted.case;
-    let procs = case.procs;
+    let (procs, policy) = (case.procs, case.policy);
     let mut counts = [0; MAX_TASKS];
     let mut run = start(procs, case.table, &mut counts);
     let mut place = [0; MAX_TASKS];
@@ -112,7 +112,7 @@ pub fn walk(accepted: &AcceptedCase, until: u32, noting: bool, out: &mut [u32]) 
             run = slot::settle(
                 run,
                 procs,
-                case.policy,
+                policy,
                 case.table,
                 &counts,
                 &released,
@@ -122,17 +122,8 @@ pub fn walk(accepted: &AcceptedCase, until: u32, noting: bool, out: &mut [u32]) 
                 &mut demoted,
                 &mut ran,
             );
-            bound = choice::choose(run, procs, case.policy, clock, jobs, bound, &mut ran);
-            run = slot::work(
-                run,
-                procs,
-                case.policy,
-                clock,
-                jobs,
-                &ran,
-                &mut done,
-                &mut late,
-            );
+            bound = choice::choose(run, procs, policy, clock, jobs, bound, &mut ran);
+            run = slot::work(run, procs, policy, clock, jobs, &ran, &mut done, &mut late);
             if noting {
                 notes::note_slot(out, &place, &done, &demoted, &late, clock);
             }
