@@ -1,11 +1,12 @@
 -- Laws of what is laid: nothing, one byte, one text behind another, a text in a lent part.
 use mathlib.Core.Path.{◌≡◌, refl, sym, ap, ◌∙◌}
 use mathlib.Core.List.{List, [], ◌∷◌, ◌++◌, append-nil}
-use Prim.Native.Nat.{ℕ, suc, ◌+◌, ◌-◌, ◌/◌, ◌%◌, ◌≤◌}
+use Prim.Native.Nat.{ℕ, suc, ◌+◌, ◌-◌, ◌/◌, ◌%◌, ◌≤◌, ◌<◌}
+use native.Mathlib.Numerals.{add-one}
 use native.Mathlib.Nat.{add-zero, add-suc, suc-add, zero-add}
 use native.Mathlib.Omega.{arith}
-use lib.ListN.{length, take, drop, set, length-append, length-drop, take-append-drop}
-use lib.Seq.{sets, sets-eq, length-sets, set_comm, length-take-le, take_all, drop-length}
+use lib.ListN.{length, take, drop, set, get_or, length-append, length-drop, take-append-drop}
+use lib.Seq.{sets, sets-eq, length-sets, set_comm, length-take-le, take_all, take-suc, drop-length}
 use borrow.Rule.Slice.PartMut.{put_mid, post_of, Post-is}
 use Rattle.puts.specs.Laid.{Laid}
 use Rattle.puts.proofs.Digits.{last_digits, last_digits-length}
@@ -33,6 +34,13 @@ sets_behind (x ∷ p) l vs = sets_cons x (p ++ l) (length p) vs ∙ ap (λ (m : 
 -- the last byte of a text may be stored before the others
 pub sets_last : (l : List ℕ) (i d : ℕ) (vs : List ℕ) → sets (set l (i + length vs) d) i vs ≡ sets l i (vs ++ (d ∷ []))
 sets_last l i d vs = sets_late l i (i + length vs) d vs (omega arith) ∙ sym (sets_append l i vs (d ∷ []))
+
+-- one more byte of a text that is copied
+pub sets_suc : (l s : List ℕ) (i j : ℕ) → j < length s → set (sets l i (take j s)) (i + j) (get_or s j 0)
+    ≡ sets l i (take (j + 1) s)
+sets_suc l s i j h =
+    let n : length (take j s) ≡ j = length-take-le j s (omega arith) in
+    rw (add-one j, take-suc s j 0 h, sets_append l i (take j s) (get_or s j 0 ∷ []), n)
 
 -- ---- what is laid
 pub laid_none : (at : ℕ) (old : List ℕ) → Laid at [] old old at

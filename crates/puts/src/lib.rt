@@ -59,14 +59,15 @@ pub fn put_number(out: &mut [u8], at: usize, v: u32) -> usize
     end
 }
 
-// Writes the bytes of s.
+// Writes the bytes of s, one by one: `copy_from_slice` would have the archive call `memmove`, and it calls `memcpy` and `memset` alone.
 pub fn put_bytes(out: &mut [u8], at: usize, s: &[u8]) -> usize
     requires { at + length s.now ≤ length out.old }
     ensures { Laid at s.now out.old out.new result }
 {
-    let end = at + s.len();
-    out[at..end].copy_from_slice(s);
-    end
+    for (i, b) in s.iter().enumerate() {
+        out[at + i] = *b;
+    }
+    at + s.len()
 }
 
 // Writes each number with the byte `between` in front.

