@@ -9,7 +9,7 @@ ghost use Rattle.checks.specs.Rows.{Sound, table_tests, head_tests, trace_tests}
 
 use cases::{AcceptedCase, Case};
 use lowest::{absences_fault, releases_fault, tasks_fault};
-use rules::{Fault, RECORD_WIDTH};
+use rules::{Fault, MAX_TASKS, RECORD_WIDTH};
 
 // ---- rows of tests
 
@@ -40,7 +40,8 @@ pub fn trace_checks(case: &Case) -> Result<(), Fault>
 {
     faults::end_fault(case.end)?;
     faults::trace_fault(case.trace)?;
-    let last = releases_fault(case.table, case.end, case.trace)?;
+    let mut last = [0; MAX_TASKS];
+    releases_fault(case.table, case.end, case.trace, &mut last)?;
     absences_fault(case.table, &last)
 }
 

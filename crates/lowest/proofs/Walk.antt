@@ -17,10 +17,10 @@ use Rattle.rules.specs.Case.{task_count, period, release_count, time_of, name_of
 use Rattle.rules.specs.Refusals.{fault_of, checked, unless, or_next, first, first_of, named, in_order, apart, last_before, release_fault}
 use Rattle.rules.specs.Refusals.{releases_fault, absent_fault, absences_fault}
 use Rattle.lists.specs.Lists.{tab_at, tab-set}
-use Rattle.legal.specs.Firsts.{none_yet, refused, clear_checked, checked_next, checked_one, fault_gives, given_clear, many_more, many_stop}
-use Rattle.legal.specs.Firsts.{first-same}
+use Rattle.legal.specs.Firsts.{none_yet, refused, checked_clear, clear_checked, checked_next, checked_one, fault_gives, given_clear, many_more}
+use Rattle.legal.specs.Firsts.{many_stop, first-same}
 use Rattle.legal.specs.Passing.{named_clear, Released, release_clear}
-use Rattle.lowest.specs.Needs.{lasts, Early, releases_tested, unkept_fault}
+use Rattle.lowest.specs.Needs.{lasts, Early, ReleasesTested, unkept_fault}
 
 -- a test that is passed holds
 pub holds_ok : (b : Bool) (f : Fault) → ◌≡◌ {A = Result (Unit {0}) Fault} (pick b (Ok tt) (Err f)) (Ok tt) → b ≡ true
@@ -93,13 +93,20 @@ module _ (ts : List ℕ) (e : ℕ) (rs : List ℕ) (j : ℕ) (x : checked (relea
 
 -- each release is tested, and nothing is at fault; or the release at j is
 pub checked_all : (ts : List ℕ) (e : ℕ) (rs last : List ℕ) (j : ℕ) → Checked ts e rs last j → j ≡ release_count rs
-    → releases_tested ts e rs ≡ Ok last
-checked_all ts e rs last j v z = rw (eq-eqb _ _ (rw z at v.none)) (ap Ok (sym (rw z at v.at_last)))
+    → ReleasesTested ts e rs last (Ok tt)
+checked_all ts e rs last j v z =
+    record { found_first = sym (checked_clear _ (rw z at v.none)); all_kept = λ q. rw z at v.at_last }
 
-pub checked_hit : (ts : List ℕ) (e : ℕ) (rs : List ℕ) (j : ℕ) (x : Fault) → (first_of (release_fault ts e rs) j).number ≡ 0
-    → j < release_count rs → checked (release_fault ts e rs j) ≡ Err x → releases_tested ts e rs ≡ Err x
-checked_hit ts e rs j x none l h =
-    fault_gives (releases_fault ts e rs) x _ (many_stop (release_fault ts e rs) j (release_count rs) l none x h)
+pub checked_hit : (ts : List ℕ) (e : ℕ) (rs last : List ℕ) (j : ℕ) (x : Fault) → (first_of (release_fault ts e rs) j).number ≡ 0
+    → j < release_count rs → checked (release_fault ts e rs j) ≡ Err x → ReleasesTested ts e rs last (Err x)
+checked_hit ts e rs last j x none l h =
+    record {
+      found_first = sym (many_stop (release_fault ts e rs) j (release_count rs) l none x h);
+      all_kept = λ q. absurd (err_ok q);
+    }
+  where
+    err_ok : ◌≡◌ {A = Result (Unit {0}) Fault} (Err x) (Ok tt) → ⊥
+    err_ok q = cc
 
 -- ---- 16, from what is kept
 -- how many of the first n releases are of the task at i
@@ -129,9 +136,10 @@ unkept_absent ts rs last few e =
     first-same (unkept_fault last) (absent_fault rs) (task_count ts) (λ i h. unkept_one rs last i e (omega arith))
 
 -- the releases are tested and then the tasks by what was kept of them
-pub both_tested : (ts : List ℕ) (e : ℕ) (rs last : List ℕ) → task_count ts ≤ max_tasks → releases_tested ts e rs ≡ Ok last
+pub both_tested : (ts : List ℕ) (e : ℕ) (rs last : List ℕ) (r : Result (Unit {0}) Fault) → task_count ts ≤ max_tasks
+    → ReleasesTested ts e rs last r → r ≡ Ok tt
     → checked (first_of (unkept_fault last) (task_count ts)) ≡ checked (first (releases_fault ts e rs ∷ absences_fault ts rs ∷ []))
-both_tested ts e rs last few tested =
-    let a = given_clear (releases_fault ts e rs) (lasts rs (release_count rs)) last tested in
-    ap checked (unkept_absent ts rs last few (sym a.1))
-    ∙ sym (checked_next (releases_fault ts e rs) (first (absences_fault ts rs ∷ [])) a.0 ∙ checked_one (absences_fault ts rs))
+both_tested ts e rs last r few tested ok =
+    ap checked (unkept_absent ts rs last few (tested.all_kept ok))
+    ∙ sym (checked_next (releases_fault ts e rs) (first (absences_fault ts rs ∷ [])) (sym tested.found_first ∙ ok)
+    ∙ checked_one (absences_fault ts rs))

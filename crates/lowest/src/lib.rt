@@ -6,7 +6,7 @@ ghost use Rattle.rules.specs.Words.{pick};
 ghost use Rattle.rules.specs.Limits.{max_tasks, max_end, max_releases};
 ghost use Rattle.rules.specs.Case.{task_count, release_count};
 ghost use Rattle.rules.specs.Refusals.{checked, first_of, tasks_fault, release_fault};
-ghost use Rattle.lowest.specs.Needs.{Sound, lasts, Early, releases_tested, unkept_fault};
+ghost use Rattle.lowest.specs.Needs.{Sound, lasts, Early, ReleasesTested, unkept_fault};
 
 use faults::refuse_unless;
 use rules::{Fault, MAX_TASKS};
@@ -48,19 +48,25 @@ pub fn release_fault(
     refuse_unless(faults::is_apart(last[i], period, time), 10, place)
 }
 
-// Release by release, each after those before it. Where none is refused: one more than the time of each task's last release, or 0.
-pub fn releases_fault(table: &[u32], end: u32, trace: &[u32]) -> Result<[u32; MAX_TASKS], Fault>
+// Release by release, each after those before it; what `last` then holds is known where none is refused. It is lent: an array that is
+// answered is on the stack twice.
+pub fn releases_fault(
+    table: &[u32],
+    end: u32,
+    trace: &[u32],
+    last: &mut [u32; MAX_TASKS],
+) -> Result<(), Fault>
     requires { Sound table.now × (release_count trace.now ≤ max_releases) × (end ≤ max_end) }
-    ensures { result ≡ releases_tested table.now end trace.now }
+    ensures { ReleasesTested table.now end trace.now last.new result }
 {
-    let mut last = [0; MAX_TASKS];
+    *last = [0; MAX_TASKS];
     for j in 0..cases::release_count(trace) {
-        release_fault(table, end, trace, j, &last)?;
+        release_fault(table, end, trace, j, last)?;
         let time = cases::time_of(trace, j);
         let i = cases::name_of(trace, j) as usize - 1;
         last[i] = time + 1;
     }
-    Ok(last)
+    Ok(())
 }
 
 // 16, task by task, from what is kept of each one's last release: the trace is not gone through again.

@@ -16,5 +16,5 @@ returns c =
     let sound = rw (← c.case.view_is) at c.requires in
     let ends = sym c.end_fault.ensures ∙ c.in_ok-end_fault.was in
     let few = sym c.trace_fault.ensures ∙ c.in_ok-trace_fault.was in
-    let tested = both_tested _ _ _ _ sound.few (sym c.releases_fault.ensures ∙ c.in_ok-last.was) in
+    let tested = both_tested _ _ _ _ _ sound.few c.releases_fault.ensures c.in_ok-releases_fault.was in
     rw (← c.case.view_is) (c.absences_fault.ensures ∙ tested ∙ sym (checked_next _ _ ends ∙ checked_next _ _ few))
