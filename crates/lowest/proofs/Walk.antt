@@ -17,7 +17,8 @@ use Rattle.rules.specs.Case.{task_count, period, release_count, time_of, name_of
 use Rattle.rules.specs.Refusals.{fault_of, checked, unless, or_next, first, first_of, named, in_order, apart, last_before, release_fault}
 use Rattle.rules.specs.Refusals.{releases_fault, absent_fault, absences_fault}
 use Rattle.lists.specs.Lists.{tab_at, tab-set}
-use Rattle.legal.specs.Firsts.{none_yet, refused, checked_clear, clear_checked, checked_next, checked_one, fault_gives, given_clear, many_more}
+use Rattle.legal.specs.Firsts.{none_yet, refused, checked_clear, clear_checked, checked_next, checked_one}
+use Rattle.legal.specs.Firsts.{fault_gives, given_clear, many_more}
 use Rattle.legal.specs.Firsts.{many_stop, first-same}
 use Rattle.legal.specs.Passing.{named_clear, Released, release_clear}
 use Rattle.lowest.specs.Needs.{lasts, Early, ReleasesTested, unkept_fault}
