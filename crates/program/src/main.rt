@@ -147,16 +147,15 @@ fn fail<E: Write>(err: &mut E, failure: Failure) -> Outcome
     ensures { result ≡ Outcome.Failed }
 {
     let (what, why) = match failure {
-        Failure::Read(why) => ("read", why),
-        Failure::Write(why) => ("write", why),
-        Failure::Open(why) => ("open", why),
+        Failure::Read(why) => ("thrumcomb: read", why),
+        Failure::Write(why) => ("thrumcomb: write", why),
+        Failure::Open(why) => ("thrumcomb: open", why),
     };
     let mut words = Cursor::new([0u8; 300]);
     let _ = write!(words, "{why}");
     let n = words.position() as usize;
     let room = words.into_inner();
     let said = room.get(..n).unwrap_or(b"");
-    put(err, b"thrumcomb: ");
     put(err, what.as_bytes());
     put(err, b": ");
     put(err, plain(str::from_utf8(said).unwrap_or("")).as_bytes());
@@ -506,6 +505,17 @@ fn run_log<R: Env + Files, I: Read, O: Write, E: Write>(
     serve_text(Some(&mut file), to, &text[..n], quiet)
 }
 
+// How the program ended: a failure is said on standard error, and is told as one.
+fn ended<E: Write>(err: &mut E, answered: Result<Outcome, Failure>) -> Outcome
+    ensures done { IfOk answered (λ outcome. result ≡ outcome) }
+    ensures failed { (why : Failure) → answered ≡ Err why → result ≡ Outcome.Failed }
+{
+    match answered {
+        Ok(outcome) => outcome,
+        Err(failure) => fail(err, failure),
+    }
+}
+
 fn main(rt: HostRuntime) -> ExitCode {
     let Asked { wish, quiet } = wished(&rt);
     let mut from = rt.stdin();
@@ -520,8 +530,5 @@ fn main(rt: HostRuntime) -> ExitCode {
         Wish::Log { word } => run_log(&rt, &mut from, &mut to, word as usize, quiet),
         _ => run(&mut from, &mut to, wish, quiet),
     };
-    tell(match answered {
-        Ok(outcome) => outcome,
-        Err(failure) => fail(&mut to.err, failure),
-    })
+    tell(ended(&mut to.err, answered))
 }
