@@ -6,6 +6,7 @@ use native.Mathlib.Numerals.{add-one}
 use native.Mathlib.Omega.{arith}
 use lib.ListN.{length, take, drop, set, length-append, length-take}
 use lib.Seq.{take_all, take_at, take-append-le, length-take-le, sets, sets-eq, length-sets}
+use Rattle.rules.specs.Reader.{kind_of}
 use Rattle.rules.specs.declared.Line.{Line}
 use Rattle.rules.specs.declared.Line.TheVariants.{Bad, Procs, Policy, Row, End, Release}
 use Rattle.lines.specs.Held.{row_numbers, release_numbers, Whole, Added}
@@ -55,6 +56,15 @@ module _ (room width n : ℕ) (old : List ℕ) (w : Whole room width n old) wher
   pub adds_two : (new : List ℕ) (a b : ℕ) → new ≡ a ∷ b ∷ [] → n + 2 ≤ room → (n + 2) % width ≡ 0
       → Added room width n new old (n + 2) (set (set old n a) (n + 1) b)
   adds_two new a b e l m = rw e (adds_some (a ∷ b ∷ []) (set (set old n a) (n + 1) b) (n + 2) (omega arith) l m (rw (add-one n)))
+
+-- a line that is not badly formed has a kind
+pub not_bad : (l : Line) → (l ≡ Bad → ⊥) → kind_of l ≡ 0 → ⊥
+not_bad Bad h e = h refl
+not_bad (Procs m) h e = omega arith
+not_bad (Policy p) h e = omega arith
+not_bad (Row T C D) h e = omega arith
+not_bad (End x) h e = omega arith
+not_bad (Release t n) h e = omega arith
 
 -- a line of another kind adds no numbers
 pub not_row : (l : Line) → ((T C D : ℕ) → l ≡ Row T C D → ⊥) → row_numbers l ≡ []

@@ -58,7 +58,7 @@ pub struct Gathered {
 }
 
 // The line at `at`, of which `says` tells what it says; badly formed where it has no newline.
-fn next_line<F: Fn(&[u8]) -> Said>(text: &[u8], at: usize, says: F) -> Step
+fn line_at<F: Fn(&[u8]) -> Said>(text: &[u8], at: usize, says: F) -> Step
     requires at_in_bounds { at < length text.now }
     requires callable { F.IsAlwaysCallable says }
     requires tells { (line : List ℕ) (said : Said) → FnReturnsAt F.Fn says line said → Says line said }
@@ -79,6 +79,22 @@ fn next_line<F: Fn(&[u8]) -> Said>(text: &[u8], at: usize, says: F) -> Step
             next: end,
         }
     }
+}
+
+// The line at `at`.
+pub fn next_line(text: &[u8], at: usize) -> Step
+    requires { at < length text.now }
+    ensures { NextLine text.now at result }
+{
+    line_at(text, at, kinds::line_says)
+}
+
+// The same where it is most likely a release, so that word is looked for first.
+pub fn next_release(text: &[u8], at: usize) -> Step
+    requires { at < length text.now }
+    ensures { NextLine text.now at result }
+{
+    line_at(text, at, kinds::release_says)
 }
 
 // What is at fault with line n, whose word opens that kind, after a line of kind `before`: 2 before 3.
@@ -174,7 +190,7 @@ fn head_line(text: &[u8], top: HeadRead, table: &mut [u32]) -> Result<HeadRead, 
     ensures { HeadLine text.now top.next result table.new }
 {
     refuse_unless(top.next < text.len(), 3, top.line)?;
-    let step = next_line(text, top.next, kinds::line_says);
+    let step = next_line(text, top.next);
     line_fault(top.before, step.kind, step.said, top.line)?;
     Ok(HeadRead {
         head: head_with(top.head, step.said),
@@ -211,8 +227,7 @@ pub fn read_releases(text: &[u8], at: usize, n: u32, trace: &mut [u32]) -> Resul
     let mut line = n;
     let mut next = at;
     while next < text.len() {
-        // most likely a release, so that word is looked for first
-        let step = next_line(text, next, kinds::release_says);
+        let step = next_release(text, next);
         line_fault(END, step.kind, step.said, line)?;
         releases = keep_release(trace, releases, step.said);
         line += 1;

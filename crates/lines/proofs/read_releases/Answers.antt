@@ -11,13 +11,13 @@ returns-in_err-line_fault c =
     let stopped = sym c.line_fault.ensures ∙ c.in_err-line_fault.was in
     rw (p.1, p.2)
     record {
-      told = releasing_stop _ _ _ _ _ _ _ w _ c.loop-next-test.true c.next_line-step.ensures _ stopped;
+      told = releasing_stop _ _ _ _ _ _ _ w _ c.loop-next-test.true c.next_release-step.ensures _ stopped;
       long = w.releases.long;
     }
 
 pub loop-next-preserved : goal.loop-next-preserved
 loop-next-preserved c =
-    releasing_on _ _ _ _ _ _ _ c.loop-next.invariant _ c.loop-next-test.true c.next_line-step.ensures _ _
+    releasing_on _ _ _ _ _ _ _ c.loop-next.invariant _ c.loop-next-test.true c.next_release-step.ensures _ _
     (sym c.line_fault.ensures ∙ c.in_ok-line_fault.was) c.keep_release-releases.ensures
 
 pub returns : goal.returns

@@ -1,8 +1,8 @@
--- `lines::next_line` meets its contract: the line ends at its newline, and the next starts behind that.
+-- `lines::line_at` meets its contract: the line ends at its newline, and the next starts behind that.
 use Rattle.std.proofs.Common.{refl, arith}
 use Rattle.std.proofs.lemmas.Fn.{says_at}
 use Rattle.lines.proofs.Unread.{ended, last}
-use Rattle.lines.proofs.next_line.Goals as goal
+use Rattle.lines.proofs.line_at.Goals as goal
 
 pub returns-then-end-text : goal.returns-then-end-text
 returns-then-end-text g c =
