@@ -18,6 +18,14 @@ abbrev pub word_at : ℕ → LineScan
 word_at zero = unread
 word_at (suc k) = in_word (drop (suc k) slot_word)
 
+-- the phase that a number stands for
+abbrev pub phase_of : ℕ → Phase
+phase_of zero = Phase·.Word
+phase_of (suc zero) = Phase·.Time
+phase_of (suc (suc zero)) = Phase·.Task
+phase_of (suc (suc (suc zero))) = Phase·.Wrong
+phase_of (suc (suc (suc (suc n)))) = Phase·.Returned
+
 abbrev pub phase_as : Phase → ℕ → ℕ → ℕ → ℕ → Bool → Bool → TaskSet → LineScan
 phase_as Phase·.Word k v t low rises names set = word_at k
 phase_as Phase·.Time k v t low rises names set = in_time k v

@@ -25,6 +25,23 @@ pub enum Phase {
     Returned,
 }
 
+// The phase that a number stands for: 4 and every larger one for the last, so that a state of any number is one still.
+impl From<u32> for Phase {
+    ghost use Rattle.heard.specs.Scans.{phase_of};
+
+    ghost from_gives = { λ number phase. phase ≡ phase_of number };
+
+    fn from(number: u32) -> Phase {
+        match number {
+            0 => Phase::Word,
+            1 => Phase::Time,
+            2 => Phase::Task,
+            3 => Phase::Wrong,
+            _ => Phase::Returned,
+        }
+    }
+}
+
 // How far a line is heard: its phase, and what that phase goes by: the bytes of the word that were read, or the digits of a number and
 // what they are worth; of the tasks the time before them, the least number that would rise, and whether all before rise and are tasks.
 // Behind a return the time is that of the line, and all its tasks are those before. The phases hold none of this: the fields stay in
