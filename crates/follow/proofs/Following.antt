@@ -1,7 +1,7 @@
 -- How the state of the check goes on: what a line at its end says of the fault, the run and the releases, and that the bytes of a line and
 -- its newline bring the state to what stands for the next fed state.
 use mathlib.Core.Path.{◌≡◌, refl, sym, ap, ◌∙◌}
-use mathlib.Core.Bool.{Bool, true, false, ◌&&◌, not, false≢true, true≢false}
+use mathlib.Core.Bool.{Bool, true, false, ◌&&◌, ◌||◌, not, false≢true, true≢false}
 use mathlib.Core.List.{List, [], ◌∷◌, ◌++◌}
 use Prim.Native.Nat.{ℕ, zero, suc, ◌+◌, ◌≤◌, ◌<◌}
 use native.Mathlib.Numerals.{add-one}
@@ -11,7 +11,7 @@ use lib.Dec.{eqb, ltb}
 use Rattle.std.specs.Prelude.{Err}
 use lib.ListN.{length, get_or, take, drop, take-append-drop, length-drop}
 use lib.Seq.{take-suc, take_all, take-add, get_or-drop}
-use borrow.Author.Tests.{eq-eqb, ne_eqb, eqb-true, le-leb, lt-leb, lt-ltb, ltb-true}
+use borrow.Author.Tests.{eq-eqb, ne_eqb, eqb-true, eqb-false, le-leb, lt-leb, lt-ltb, ltb-true}
 use Rattle.rules.specs.declared.Fault.{Fault}
 use Rattle.rules.specs.declared.Run.{Run}
 use Rattle.rules.specs.Words.{pick, tab}
@@ -24,7 +24,7 @@ use Rattle.rules.specs.Answers.{Answer, refusal, result, settled}
 use Rattle.rules.specs.Text.{newline_byte, up_to, has}
 use Rattle.rules.specs.Log.{LogLine, keeps_rule, log_lines, line_fault, lines_fault_in, log_fault, log_answer}
 use Rattle.lists.specs.Lists.{tab_long, members}
-use Rattle.lists.specs.Tests.{and_left, and_right}
+use Rattle.lists.specs.Tests.{and_left, and_right, or_left, or_right}
 use Rattle.legal.specs.Legal.{legal}
 use Rattle.legal.specs.Firsts.{next_none, next_clear, given_fault, checked_stop}
 use Rattle.legal.specs.Settled.{refuses_with}
@@ -82,12 +82,13 @@ set_formed n (Ended·.Slot t rises names) ys h = refl
 -- ---- one slot
 -- a run of which steps 1 and 3 change no job, where no release is due, is open already
 pub opens_calm : (c : Case) → Accepted c → (t : ℕ) (r : Run) (next jobs : ℕ) (calm : Bool) → Full r → Reached c.trace next t
-    → Ahead c.policy t r jobs calm → calm ≡ true → due c.trace next t ≡ false → Opens (setup_in c) c.trace t r r next jobs
-opens_calm c ok t r next jobs calm full w a e none =
+    → Ahead c.policy t r jobs calm → (not calm || due c.trace next t) ≡ false → Opens (setup_in c) c.trace t r r next jobs
+opens_calm c ok t r next jobs calm full w a e =
+    let none : due c.trace next t ≡ false = or_right (not calm) _ e in
     let o = orderly c (legal c ok) in
     record {
       run = sym (calm_settled (setup_in c) t (released_at c t) r full (λ i l. none_now c.trace o next t w none i)
-          (a.stays e));
+          (a.stays (not_left calm (or_left (not calm) _ e))));
       reached = reached_next c.trace o next t w none;
       counted = a.jobs;
     }
@@ -317,6 +318,19 @@ module _ (c : Case) (r : Run) (xs : List Bool) (scan : Scan) (lines next jobs : 
 
     pub step_stopped : (number' ≡ 0 → ⊥) → Follows c (feed_byte c f b) (log_of s ys scan lines next' jobs' calm' number')
     step_stopped = line_stopped c f r xs scan lines next jobs calm (rw none at w) s ys next' jobs' calm' number' b e k
+
+  -- both: what stands behind the line
+  pub step_line : (s : Run) (ys : List Bool) (next' jobs' : ℕ) (calm' : Bool) (number' b : ℕ) → b ≡ newline_byte
+      → Closed c lines (scan_as scan xs) r s ys next' jobs' calm' number'
+      → (sc : Scan) (ln : ℕ) → sc ≡ pick (eqb number' 0) start_of scan → ln ≡ pick (eqb number' 0) (lines + 1) lines
+      → (f : Feed) → Follows c f (log_of r xs scan lines next jobs calm number)
+      → Follows c (feed_byte c f b) (log_of s ys sc ln next' jobs' calm' number')
+  step_line s ys next' jobs' calm' number' b e k sc ln p q f w = rw (p, q) (go (eqb number' 0) refl)
+    where
+      go : (t : Bool) → eqb number' 0 ≡ t
+          → Follows c (feed_byte c f b) (log_of s ys (pick t start_of scan) (pick t (lines + 1) lines) next' jobs' calm' number')
+      go true z = step_over s ys next' jobs' calm' number' b e k f w (eqb-true number' 0 z)
+      go false z = step_stopped s ys next' jobs' calm' number' b e k f w (eqb-false number' 0 z)
 
   -- what the code that goes on asks for
   pub asks : Followed c (log_of r xs scan lines next jobs calm number) → (length xs ≡ max_tasks) × LineSmall (scan_as scan xs)

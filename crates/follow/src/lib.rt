@@ -2,20 +2,22 @@
 // state follows the log, not our own replay: each slot works the set that its line names.
 #![tactic(auto)]
 
-ghost use Rattle.std.specs.Prelude.{◌≡◌, Bool, ◌&&◌, not, List, [], suc, ◌≤◌, ◌^◌, eqb, ltb};
+ghost use Rattle.std.specs.Prelude.{◌≡◌, Bool, ◌&&◌, ◌||◌, not, List, [], suc, ◌+◌, ◌≤◌, ◌^◌, eqb, ltb};
 ghost use Rattle.rules.specs.Words.{pick};
 ghost use Rattle.rules.specs.Case.{Case};
 ghost use Rattle.rules.specs.Slot.{jobs_now, lowered, worked};
 ghost use Rattle.rules.specs.Replay.{setup_in};
+ghost use Rattle.rules.specs.Refusals.{Accepted};
 ghost use Rattle.rules.specs.Answers.{logged_as, settled};
 ghost use Rattle.rules.specs.Calls.{LogPromise};
 ghost use Rattle.rules.specs.Log.{keeps_rule};
 ghost use Rattle.lists.specs.Lists.{members};
 ghost use Rattle.bridge.specs.Steps.{Full};
 ghost use Rattle.counts.specs.Needs.{Counts};
+ghost use Rattle.traces.specs.Traces.{due};
 ghost use Rattle.feeds.specs.Feed.{Feed, opening, formed_heard, names_heard, feed, fed_fault};
 ghost use Rattle.slot.specs.Calm.{Ahead};
-ghost use Rattle.heard.specs.Scans.{ended_as};
+ghost use Rattle.heard.specs.Scans.{start_of, ended_as};
 ghost use Rattle.follow.specs.Follows.{Follows, Followed, Openable, Opens};
 
 use cases::{AcceptedCase, Case};
@@ -40,29 +42,32 @@ pub struct Log {
 
 // ---- one slot
 
+// Whether a slot has to be opened: in most slots nothing is released and steps 1 and 3 change no job. That the case is accepted is said for
+// the caller, who does not look into it.
+fn must_open(accepted: &AcceptedCase, next: usize, clock: u32, calm: bool) -> bool
+    ensures asked { result ≡ (not calm || due accepted.now.trace next clock) }
+    ensures accepted { Accepted accepted.now }
+{
+    !calm || traces::is_due(accepted.case.trace, next, clock)
+}
+
 // Steps 1 to 3 of the slot at a time, with the releases of that time: the run, the first release after them, and how many jobs there are.
-// In most slots nothing is released and steps 1 and 3 change no job. The run is changed where it lies: one that is given back has a place
-// of its own on the stack of the loop that calls.
+// The run is changed where it lies: one that is given back has a place of its own on the stack of the loop that calls.
 fn open_at(
     run: &mut Run,
     accepted: &AcceptedCase,
     counts: &[u32; MAX_TASKS],
     clock: u32,
-    calm: bool,
     next: &mut usize,
     jobs: &mut usize,
 )
     requires openable { Openable accepted.now counts.now clock next.old }
     requires full { Full run.old }
-    requires ahead { Ahead accepted.now.policy clock run.old jobs.old calm }
     ensures { Opens (setup_in accepted.now) accepted.now.trace clock run.old run.new next.new jobs.new }
 {
     let case = &accepted.case;
-    let from = *next;
-    if calm && !traces::is_due(case.trace, from, clock) {
-        return;
-    }
     let mut released = [false; MAX_TASKS];
+    let from = *next;
     *next = traces::take_releases(case.trace, from, clock, &mut released);
     *run = slot::open_run(
         *run,
@@ -184,6 +189,23 @@ pub fn open_log() -> Log
     }
 }
 
+// Behind a line without fault the next one begins; behind one at fault nothing changes any more.
+fn next_scan(scan: Scan, number: u32) -> Scan
+    ensures { result ≡ pick (eqb number 0) start_of scan }
+{
+    match number {
+        0 => heard::line_start(),
+        _ => scan,
+    }
+}
+
+fn next_line(lines: u32, number: u32) -> u32
+    requires { lines ≤ 10 ^ 9 }
+    ensures { result ≡ pick (eqb number 0) (lines + 1) lines }
+{
+    if number == 0 { lines + 1 } else { lines }
+}
+
 // A piece of the log, line by line: up to the newline by the bytes alone, then the slot. A turn goes on by a line and not by one byte, and
 // what follows a fault does not matter. The run is changed where this loop holds it, and only where a slot changes it: a function that took
 // it and gave it back would copy it in every slot. Run and set stay in the state: the compiler takes a run that is a local of its own apart
@@ -209,19 +231,16 @@ pub fn feed(log: Log, accepted: &AcceptedCase, counts: &[u32; MAX_TASKS], piece:
         }
         let ended = heard::line_end(scan, &mut s.named);
         if has_slot(ended, accepted, lines, &mut number) {
-            open_at(
-                &mut s.run, accepted, counts, lines, calm, &mut next, &mut jobs,
-            );
+            if must_open(accepted, next, lines, calm) {
+                open_at(&mut s.run, accepted, counts, lines, &mut next, &mut jobs);
+            }
             number = slot_number(s.run, accepted, lines, ended, jobs, &s.named);
             if is_worked(number, jobs) {
                 work_at(&mut s.run, accepted, lines, &s.named, &mut jobs, &mut calm);
             }
         }
-        // behind a line without fault the next one begins; behind one at fault nothing changes any more
-        if number == 0 {
-            scan = heard::line_start();
-            lines += 1;
-        }
+        scan = next_scan(scan, number);
+        lines = next_line(lines, number);
         i += 1;
     }
     Log {

@@ -6,19 +6,21 @@ use native.Mathlib.Omega.{arith}
 use lib.Dec.{eqb}
 use lib.ListN.{length, get_or}
 use borrow.Author.Tests.{ltb-true}
+use Rattle.rules.specs.Limits.{max_tasks}
 use Rattle.rules.specs.Text.{newline_byte}
 use Rattle.rules.specs.Case.{Case}
 use Rattle.rules.specs.Replay.{setup_in}
 use Rattle.lists.specs.Lists.{members}
 use Rattle.lists.specs.Tests.{and_right}
-use Rattle.heard.specs.Scans.{scan_as}
-use Rattle.follow.specs.Follows.{log_of, Closed}
-use Rattle.follow.proofs.Following.{worked_none, opened_whole, closed_none, closed_slot, none_left, asks, step_over, step_stopped}
+use Rattle.heard.specs.Scans.{scan_as, ended_as}
+use Rattle.feeds.specs.LineScan.{line_end}
+use Rattle.follow.specs.Follows.{log_of, Opens, Closed}
+use Rattle.follow.proofs.Following.{opens_calm, worked_none, opened_whole, closed_none, closed_slot, none_left, asks, step_line}
 use Rattle.follow.proofs.Following.{Feeding, feeding_none, feeding_line, feeding_more, feeding_all, feeding_stopped, feeding_some}
 use Rattle.follow.proofs.Following.{newline_there}
 use Rattle.follow.proofs.feed.Goals as goal
 use Rattle.follow.proofs.feed.Goals.{then-has_slot+then-is_worked, then-has_slot+else-is_worked, else-has_slot}
-use Rattle.follow.proofs.feed.Goals.{then-number-eq0-2, else-number-eq0-2}
+use Rattle.follow.proofs.feed.Goals.{then-must_open, else-must_open}
 use Rattle.follow.proofs.feed.Goals.{then-loop-i-test+else-number-eq0, else-loop-i-test}
 use Rattle.follow.proofs.feed.Goals.{then-loop-i-test+then-number-eq0+then-i-piece}
 
@@ -45,42 +47,58 @@ loop-i-preserved c =
     newline_there p _ _ _ _ _ (omega arith) h.ensures in
     let on : h.new.at < length p = omega (arith, there.0, c.if-i-piece.false) in
     let e = c.line_end-ended in
-    let full = λ (m : l.lines < k.end). ((asks _ _ _ _ _ _ _ _ _ none l.invariant.some).2 m).0 in
+    let known = asks _ _ _ _ _ _ _ _ _ none l.invariant.some in
     let z = c.if-has_slot in
     -- the end of the line, with a slot that works, with one that does not, and with none
     let closed : Closed k l.lines (scan_as h.result h.new.named) l.s.run z.s.run z.s.named z.next z.jobs z.calm z.number =
     elim z.branch [
       | then-has_slot+then-is_worked w ↦
           let slot = sym c.has_slot.ensures.1 ∙ w.if-has_slot.true in
-          let whole = full (ltb-true l.lines k.end (and_right (eqb c.has_slot.new.number 0) _ slot)) in
+          let whole = known.2 (ltb-true l.lines k.end (and_right (eqb c.has_slot.new.number 0) _ slot)) in
+          let j = w.if-must_open in
+          let opens : Opens (setup_in k) k.trace l.lines l.s.run j.s.run j.next j.jobs =
+          elim j.branch [
+            | then-must_open x ↦ rw (x.s-is, x.next-is, x.jobs-is) x.open_at.ensures
+            | else-must_open x ↦
+                rw (x.s-is, x.next-is, x.jobs-is)
+                (opens_calm k w.must_open.ensures.accepted _ _ _ _ l.calm whole.0 whole.1 whole.2
+                (sym w.must_open.ensures.asked ∙ x.if-must_open.false))
+          ] in
+          -- what the line's end left of the set that it names still stands
+          let d : (length j.s.named ≡ max_tasks) × (ended_as e.result j.s.named ≡ line_end (scan_as h.result h.new.named)) =
+          elim j.branch [ then-must_open x ↦ rw x.s-is e.ensures | else-must_open x ↦ rw x.s-is e.ensures ] in
           rw (w.s-is, w.next-is, w.jobs-is, w.calm-is, w.number-is)
-          (closed_slot k l.lines _ e.result e.new.named l.s.run e.ensures.0 e.ensures.1 _ (c.has_slot.ensures.0 _) slot _ _ _ _ _ _ _
-          whole w.open_at.ensures (w.slot_number-number.ensures _) (λ n. w.work_at.ensures))
+          (closed_slot k l.lines _ e.result j.s.named l.s.run d.0 d.1 _ (c.has_slot.ensures.0 _) slot _ _ _ _ _ _ _
+          whole.0 opens (w.slot_number-number.ensures _) (λ n. w.work_at.ensures))
       | then-has_slot+else-is_worked w ↦
           let slot = sym c.has_slot.ensures.1 ∙ w.if-has_slot.true in
-          let whole = full (ltb-true l.lines k.end (and_right (eqb c.has_slot.new.number 0) _ slot)) in
-          let o = w.open_at in
+          let whole = known.2 (ltb-true l.lines k.end (and_right (eqb c.has_slot.new.number 0) _ slot)) in
+          let j = w.if-must_open in
+          let opens : Opens (setup_in k) k.trace l.lines l.s.run j.s.run j.next j.jobs =
+          elim j.branch [
+            | then-must_open x ↦ rw (x.s-is, x.next-is, x.jobs-is) x.open_at.ensures
+            | else-must_open x ↦
+                rw (x.s-is, x.next-is, x.jobs-is)
+                (opens_calm k w.must_open.ensures.accepted _ _ _ _ l.calm whole.0 whole.1 whole.2
+                (sym w.must_open.ensures.asked ∙ x.if-must_open.false))
+          ] in
+          let d : (length j.s.named ≡ max_tasks) × (ended_as e.result j.s.named ≡ line_end (scan_as h.result h.new.named)) =
+          elim j.branch [ then-must_open x ↦ rw x.s-is e.ensures | else-must_open x ↦ rw x.s-is e.ensures ] in
           rw (w.s-is, w.next-is, w.jobs-is, w.calm-is, w.number-is)
-          (closed_slot k l.lines _ e.result e.new.named l.s.run e.ensures.0 e.ensures.1 _ (c.has_slot.ensures.0 _) slot _ _ _ _ _ _ _
-          whole o.ensures (w.slot_number-number.ensures _)
-          (λ n. worked_none (setup_in k) l.lines o.new.run o.new.jobs l.calm (members e.new.named)
-          (opened_whole k l.lines l.s.run o.new.run o.new.next o.new.jobs whole o.ensures) o.ensures.counted
-          (none_left w.slot_number-number.result o.new.jobs n (sym w.is_worked.ensures ∙ w.if-is_worked.false))))
+          (closed_slot k l.lines _ e.result j.s.named l.s.run d.0 d.1 _ (c.has_slot.ensures.0 _) slot _ _ _ _ _ _ _
+          whole.0 opens (w.slot_number-number.ensures _)
+          (λ n. worked_none (setup_in k) l.lines j.s.run j.jobs l.calm (members j.s.named)
+          (opened_whole k l.lines l.s.run j.s.run j.next j.jobs whole.0 opens) opens.counted
+          (none_left w.slot_number-number.result j.jobs n (sym w.is_worked.ensures ∙ w.if-is_worked.false))))
       | else-has_slot w ↦
           rw (w.s-is, w.next-is, w.jobs-is, w.calm-is, w.number-is)
           (closed_none k l.lines _ e.result e.new.named l.s.run e.ensures.0 e.ensures.1 _ _ _ _ _
           (c.has_slot.ensures.0 _) (sym c.has_slot.ensures.1 ∙ w.if-has_slot.false))
     ] in
-    let y = c.if-number-eq0-2 in
-    let more : Feeding k p c.args.log (h.new.at + 1) (log_of z.s.run z.s.named y.scan y.lines z.next z.jobs z.calm z.number) =
-    feeding_more k p _ _ _ _ on fed (λ f v. elim y.branch [
-      | then-number-eq0-2 w ↦
-          rw (w.scan-is, w.lines-is, w.line_start-scan.ensures)
-          (step_over k _ _ _ _ _ _ _ _ none _ _ _ _ _ _ _ (there.1 on) closed f v w.if-number-eq0-2.true)
-      | else-number-eq0-2 w ↦
-          rw (w.scan-is, w.lines-is)
-          (step_stopped k _ _ _ _ _ _ _ _ none _ _ _ _ _ _ _ (there.1 on) closed f v w.if-number-eq0-2.false)
-    ]) in
+    let more : Feeding k p c.args.log (h.new.at + 1)
+    (log_of z.s.run z.s.named c.next_scan-scan.result c.next_line-lines.result z.next z.jobs z.calm z.number) =
+    feeding_more k p _ _ _ _ on fed
+    (step_line k _ _ _ _ _ _ _ _ none _ _ _ _ _ _ _ (there.1 on) closed _ _ c.next_scan-scan.ensures c.next_line-lines.ensures) in
     record { fed = more; some = feeding_some k p _ _ _ more c.requires.followed }
 
 pub returns : goal.returns

@@ -1,9 +1,8 @@
 -- `follow::open_at` meets its contract.
-use Rattle.std.proofs.Common.{sym, ◌∙◌}
 use Rattle.rules.specs.Case.{case_of}
 use Rattle.legal.specs.Legal.{legal}
 use Rattle.traces.specs.Given.{orderly, needed}
-use Rattle.follow.proofs.Following.{opens_calm, opens-settled}
+use Rattle.follow.proofs.Following.{opens-settled}
 use Rattle.follow.proofs.open_at.Goals as goal
 
 pub take_releases-requires : goal.take_releases-requires
@@ -17,16 +16,6 @@ open_run-requires c =
     let ok = rw (← c.case.view_is) at c.accepted.invariant in
     let q = rw (← c.accepted.view_is, ← c.case.view_is) at c.requires.openable in
     needed _ (legal _ ok) _ q.before _ c.take_releases.ensures.2 _ q.counted
-
-pub returns-then-not-is_due : goal.returns-then-not-is_due
-returns-then-not-is_due c =
-    let ok = rw (← c.case.view_is) at c.accepted.invariant in
-    let q = rw (← c.accepted.view_is, ← c.case.view_is) at c.requires.openable in
-    let a = rw (← c.accepted.view_is, ← c.case.view_is) at c.requires.ahead in
-    let i = c.case.inside in
-    rw (← c.accepted.view_is, ← c.case.view_is)
-    (opens_calm (case_of i.procs i.policy i.table.now i.end i.trace.now) ok _ _ _ _ _ c.requires.full q.reached a c.if-calm.true
-    (sym c.is_due.ensures ∙ c.if-not-is_due.true))
 
 pub returns : goal.returns
 returns c =
