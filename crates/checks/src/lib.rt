@@ -33,7 +33,7 @@ pub fn head_checks(case: &Case) -> Result<(), Fault>
 }
 
 // 7, 12, then release by release, which is asked of few releases before an end that stands, then 16
-#[tactic(auto, using(legal::specs::Firsts::rows))]
+#[tactic(auto, using(legal::specs::Firsts::rows, lowest::proofs::Walk::both_tested))]
 pub fn trace_checks(case: &Case) -> Result<(), Fault>
     requires { Sound case.now.table }
     ensures { result ≡ checked (first (trace_tests case.now.table case.now.end case.now.trace)) }
