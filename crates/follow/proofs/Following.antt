@@ -93,6 +93,11 @@ opens_calm c ok t r next jobs calm full w a e =
       counted = a.jobs;
     }
 
+-- a slot is open, and what the end of its line left of the set that it names still stands
+abbrev pub Opened : Case → ℕ → LineScan → Ended → Run → Run → List Bool → ℕ → ℕ → Type 0
+Opened c t x e r s ys next jobs =
+    Opens (setup_in c) c.trace t r s next jobs × ((length ys ≡ max_tasks) × (ended_as e ys ≡ line_end x))
+
 -- a slot that is opened by its steps
 pub opens-settled : (c : Case) (t : ℕ) (r s : Run) (next jobs : ℕ) (rel : List Bool) → Full r
     → rel ≡ releases c.trace (release_count c.trace) t → Reached c.trace next (suc t)

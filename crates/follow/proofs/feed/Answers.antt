@@ -1,21 +1,22 @@
 -- `follow::feed` meets its contract: a turn feeds one line more.
 use mathlib.Core.Path.{◌≡◌, sym, ◌∙◌}
+use mathlib.Core.Bool.{true, false, ◌&&◌, ◌||◌, not}
 use mathlib.Core.List.{List}
 use Prim.Native.Nat.{ℕ, ◌+◌, ◌≤◌, ◌<◌}
 use native.Mathlib.Omega.{arith}
-use lib.Dec.{eqb}
+use lib.Dec.{eqb, ltb}
 use lib.ListN.{length, get_or}
 use borrow.Author.Tests.{ltb-true}
-use Rattle.rules.specs.Limits.{max_tasks}
 use Rattle.rules.specs.Text.{newline_byte}
 use Rattle.rules.specs.Case.{Case}
 use Rattle.rules.specs.Replay.{setup_in}
+use Rattle.rules.specs.Refusals.{Accepted}
 use Rattle.lists.specs.Lists.{members}
 use Rattle.lists.specs.Tests.{and_right}
-use Rattle.heard.specs.Scans.{scan_as, ended_as}
-use Rattle.feeds.specs.LineScan.{line_end}
-use Rattle.follow.specs.Follows.{log_of, Opens, Closed}
-use Rattle.follow.proofs.Following.{opens_calm, worked_none, opened_whole, closed_none, closed_slot, none_left, asks, step_line}
+use Rattle.traces.specs.Traces.{due}
+use Rattle.heard.specs.Scans.{scan_as}
+use Rattle.follow.specs.Follows.{log_of, Closed}
+use Rattle.follow.proofs.Following.{Opened, opens_calm, worked_none, opened_whole, closed_none, closed_slot, none_left, asks, step_line}
 use Rattle.follow.proofs.Following.{Feeding, feeding_none, feeding_line, feeding_more, feeding_all, feeding_stopped, feeding_some}
 use Rattle.follow.proofs.Following.{newline_there}
 use Rattle.follow.proofs.feed.Goals as goal
@@ -48,47 +49,44 @@ loop-i-preserved c =
     let on : h.new.at < length p = omega (arith, there.0, c.if-i-piece.false) in
     let e = c.line_end-ended in
     let known = asks _ _ _ _ _ _ _ _ _ none l.invariant.some in
+    -- the slot of a line stands before the end, and one that need not be opened is open as it stands
+    let early = λ (slot : (eqb c.has_slot.new.number 0 && ltb l.lines k.end) ≡ true).
+    ltb-true l.lines k.end (and_right (eqb c.has_slot.new.number 0) _ slot) in
+    let as_it_stands = λ (m : l.lines < k.end) (ok : Accepted k) (asked : (not l.calm || due k.trace l.next l.lines) ≡ false).
+    opens_calm k ok _ _ _ _ l.calm (known.2 m).0 (known.2 m).1 (known.2 m).2 asked in
     let z = c.if-has_slot in
     -- the end of the line, with a slot that works, with one that does not, and with none
     let closed : Closed k l.lines (scan_as h.result h.new.named) l.s.run z.s.run z.s.named z.next z.jobs z.calm z.number =
     elim z.branch [
       | then-has_slot+then-is_worked w ↦
           let slot = sym c.has_slot.ensures.1 ∙ w.if-has_slot.true in
-          let whole = known.2 (ltb-true l.lines k.end (and_right (eqb c.has_slot.new.number 0) _ slot)) in
           let j = w.if-must_open in
-          let opens : Opens (setup_in k) k.trace l.lines l.s.run j.s.run j.next j.jobs =
+          let o : Opened k l.lines (scan_as h.result h.new.named) e.result l.s.run j.s.run j.s.named j.next j.jobs =
           elim j.branch [
-            | then-must_open x ↦ rw (x.s-is, x.next-is, x.jobs-is) x.open_at.ensures
+            | then-must_open x ↦ rw (x.s-is, x.next-is, x.jobs-is) (x.open_at.ensures, e.ensures)
             | else-must_open x ↦
-                rw (x.s-is, x.next-is, x.jobs-is)
-                (opens_calm k w.must_open.ensures.accepted _ _ _ _ l.calm whole.0 whole.1 whole.2
-                (sym w.must_open.ensures.asked ∙ x.if-must_open.false))
+                let asked = sym w.must_open.ensures.asked ∙ x.if-must_open.false in
+                rw (x.s-is, x.next-is, x.jobs-is) (as_it_stands (early slot) w.must_open.ensures.accepted asked, e.ensures)
           ] in
-          -- what the line's end left of the set that it names still stands
-          let d : (length j.s.named ≡ max_tasks) × (ended_as e.result j.s.named ≡ line_end (scan_as h.result h.new.named)) =
-          elim j.branch [ then-must_open x ↦ rw x.s-is e.ensures | else-must_open x ↦ rw x.s-is e.ensures ] in
           rw (w.s-is, w.next-is, w.jobs-is, w.calm-is, w.number-is)
-          (closed_slot k l.lines _ e.result j.s.named l.s.run d.0 d.1 _ (c.has_slot.ensures.0 _) slot _ _ _ _ _ _ _
-          whole.0 opens (w.slot_number-number.ensures _) (λ n. w.work_at.ensures))
+          (closed_slot k l.lines _ e.result j.s.named l.s.run o.1.0 o.1.1 _ (c.has_slot.ensures.0 _) slot _ _ _ _ _ _ _
+          (known.2 (early slot)).0 o.0 (w.slot_number-number.ensures _) (λ n. w.work_at.ensures))
       | then-has_slot+else-is_worked w ↦
           let slot = sym c.has_slot.ensures.1 ∙ w.if-has_slot.true in
-          let whole = known.2 (ltb-true l.lines k.end (and_right (eqb c.has_slot.new.number 0) _ slot)) in
           let j = w.if-must_open in
-          let opens : Opens (setup_in k) k.trace l.lines l.s.run j.s.run j.next j.jobs =
+          let o : Opened k l.lines (scan_as h.result h.new.named) e.result l.s.run j.s.run j.s.named j.next j.jobs =
           elim j.branch [
-            | then-must_open x ↦ rw (x.s-is, x.next-is, x.jobs-is) x.open_at.ensures
+            | then-must_open x ↦ rw (x.s-is, x.next-is, x.jobs-is) (x.open_at.ensures, e.ensures)
             | else-must_open x ↦
-                rw (x.s-is, x.next-is, x.jobs-is)
-                (opens_calm k w.must_open.ensures.accepted _ _ _ _ l.calm whole.0 whole.1 whole.2
-                (sym w.must_open.ensures.asked ∙ x.if-must_open.false))
+                let asked = sym w.must_open.ensures.asked ∙ x.if-must_open.false in
+                rw (x.s-is, x.next-is, x.jobs-is) (as_it_stands (early slot) w.must_open.ensures.accepted asked, e.ensures)
           ] in
-          let d : (length j.s.named ≡ max_tasks) × (ended_as e.result j.s.named ≡ line_end (scan_as h.result h.new.named)) =
-          elim j.branch [ then-must_open x ↦ rw x.s-is e.ensures | else-must_open x ↦ rw x.s-is e.ensures ] in
+          let whole = (known.2 (early slot)).0 in
           rw (w.s-is, w.next-is, w.jobs-is, w.calm-is, w.number-is)
-          (closed_slot k l.lines _ e.result j.s.named l.s.run d.0 d.1 _ (c.has_slot.ensures.0 _) slot _ _ _ _ _ _ _
-          whole.0 opens (w.slot_number-number.ensures _)
+          (closed_slot k l.lines _ e.result j.s.named l.s.run o.1.0 o.1.1 _ (c.has_slot.ensures.0 _) slot _ _ _ _ _ _ _
+          whole o.0 (w.slot_number-number.ensures _)
           (λ n. worked_none (setup_in k) l.lines j.s.run j.jobs l.calm (members j.s.named)
-          (opened_whole k l.lines l.s.run j.s.run j.next j.jobs whole.0 opens) opens.counted
+          (opened_whole k l.lines l.s.run j.s.run j.next j.jobs whole o.0) o.0.counted
           (none_left w.slot_number-number.result j.jobs n (sym w.is_worked.ensures ∙ w.if-is_worked.false))))
       | else-has_slot w ↦
           rw (w.s-is, w.next-is, w.jobs-is, w.calm-is, w.number-is)
